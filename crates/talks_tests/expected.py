@@ -3,7 +3,7 @@
 Two clients take turns. At each look one of them does one thing: it comes, or hears the message at the front of its bytes, or gets what it wants of the
 machine, or ends. A message is a length byte and a text: 'o..' opens a session, '?' asks how it stands, 'd' asks what a
 statement would answer, which are no rows, 'b' takes the writer lock, 'm' gives it back,
-any other is a statement. An answer is said as a letter and the last digit of the count of steps.
+any other is a statement. An answer is said as a letter and the last digit of the count of steps, which an opening does not tell.
 """
 
 ANSWERS = {"o": "o", "b": "b", "m": "m"}
@@ -53,7 +53,7 @@ def serve(first, second):
                 said, lock = ("!", lock) if lock is not None else (said, me)
             elif said == "m":
                 lock = None if lock == me else lock
-            client.told += said + ("." if said == "!" else str(steps % 10))
+            client.told += said + ("." if said in "!o" else str(steps % 10))
             client.wants = None
             waiting = [c for c in waiting if c != me]
     return [c.told for c in clients]

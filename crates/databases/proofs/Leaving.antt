@@ -67,7 +67,7 @@ module _ {S X T C : Type 0} (Reads : ReadingRelation) (state : S → StoreState)
       → AdmittedBySteps Reads state t k clients old ds new made c n login → learnt_of_all c ds ≡ [] → ⊥
   learnt_by_steps clients old [] new made c n login is none = absurd is
   learnt_by_steps clients old (d ∷ ds) new made c n login (inl is) none =
-      own_is_learnt c (learnt d.want d.reply) (subst (λ (e : ℕ). own e c (learnt d.want d.reply) ≡ []) is.0 (none_before (learnt_of c d) (learnt_of_all c ds) none))
+      own_is_learnt c (learnt d.want d.reply) (subst (λ (e : ℕ). own e c (learnt d.want d.reply) ≡ []) is.0.0 (none_before (learnt_of c d) (learnt_of_all c ds) none))
   learnt_by_steps clients old (d ∷ ds) new made c n login (inr is) none =
       learnt_by_steps clients made.0 ds new made.5 c n login is (none_after (learnt_of c d) (learnt_of_all c ds) none)
 
@@ -83,7 +83,7 @@ module _ {S X T C : Type 0} (Reads : ReadingRelation) (state : S → StoreState)
       → AdmittedIn Reads state t k old before us new after took c n login → own_learnt c us ≡ [] → ⊥
   learnt_somewhere old before [] new after took c n login is none = absurd is
   learnt_somewhere old before (u ∷ us) new after took c n login (inl is) none =
-      learnt_here old took.0 u took.1 took.2 took.4 c n login is (none_before (learnt_in c u) (own_learnt c us) none)
+      learnt_here old took.0 u took.1 took.2 took.4 c n login is.0 (none_before (learnt_in c u) (own_learnt c us) none)
   learnt_somewhere old before (u ∷ us) new after took c n login (inr is) none =
       learnt_somewhere took.1 took.2 us new after took.6 c n login is (none_after (learnt_in c u) (own_learnt c us) none)
 
@@ -105,7 +105,7 @@ module _ {S X T C : Type 0} (Reads : ReadingRelation) (state : S → StoreState)
   none_open_more most old before end new after serves w sound here works is c n login none has =
       let from = admitted Reads state t k old before serves.turns new after (sound, (w, here)) serves.took c n login has in
       let nothing : own_learnt c serves.turns ≡ [] → ⊥ =
-      λ empty. ⊎_elim none (λ it. learnt_somewhere old before serves.turns new after serves.took c n login it empty) from in
+      λ empty. ⊎_elim (λ was. none was.0) (λ it. learnt_somewhere old before serves.turns new after serves.took c n login it empty) from in
       let let_go : WasLetGo c serves.turns → ⊥ =
       λ went. ⊎_elim (λ stopped. let wrong : false ≡ true = sym works ∙ stopped in absurd (let no : ⊥ = cc in no)) (λ nobody_has. nobody_has n login has) (serves.closed (sound, (w, here)) c went) in
       ⊎_elim

@@ -1,9 +1,11 @@
 -- Laws of steps, questions and ends of sessions.
 use Rattle.std.specs.Prelude.{◌<◌, ◌^◌}
-use Rattle.std.proofs.Common.{◌≡◌, ◌⊎◌, ◌∙◌, inl, inr, ℕ, Bool, true, false, List, sym, ap, subst, arith}
+use Rattle.std.proofs.Common.{◌≡◌, ◌⊎◌, ◌∙◌, inl, inr, ℕ, Bool, true, false, List, None, sym, ap, subst, arith}
 use Rattle.sql_types.specs.declared.answer.Answer.{Answer}
+use Rattle.sql_types.specs.declared.answer.Answer.TheVariants as answer
 use Rattle.sql_types.specs.declared.event.Event.{Event}
 use Rattle.sql_types.specs.declared.event.Event.TheVariants as event
+use Rattle.sql_types.specs.declared.tag.Tag.TheVariants as tag
 use Rattle.store.specs.Store.{StoreState}
 use Rattle.abstract_database.specs.Lists.{TheName}
 use Rattle.abstract_database.specs.Machine.{Event as MachineEvent, opens, executes, closes, Session, number_in}
@@ -17,7 +19,7 @@ use Rattle.talks.specs.declared.want.Want.TheVariants as want
 use Rattle.talks.specs.declared.want.Reply.{Reply}
 use Rattle.talks.specs.declared.want.Reply.TheVariants as reply
 use Rattle.talks.specs.declared.want.SessionEntry.{SessionEntry}
-use Rattle.talks.specs.Wants.{OpensSession}
+use Rattle.talks.specs.Wants.{OpensSession, TellsOpened}
 use Rattle.served_machine.specs.Sessions.{HasSession, HasOwnSession, IsSoundServer}
 use Rattle.served_machine.specs.Served.{TakesEvent, OpensFor, has_stopped, turns_away, lacks_memory, takes, TakesStep, LooksUpKept, TellsClient, ClosesOne}
 use Rattle.served_machine.specs.LookUpLaws.{looked_sound, looked_open}
@@ -47,9 +49,9 @@ module _ {S X : Type 0} (Reads : ReadingRelation) (state : S → StoreState) (ol
   pub event_stays : (c : ℕ) (e : Event) (a : Answer) → TakesEvent Reads state c e a old new → old.stopped ≡ true → new.stopped ≡ true
   event_stays c e a made was = ap (λ (s : Server S X). s.stopped) (made.stopped was).1 ∙ was
 
-  -- where one more session is open, the event opens it
+  -- where one more session is open, the event opens it, where it was not there, and is answered so
   event_open : (c : ℕ) (e : Event) (a : Answer) → (old.stopped ≡ true → new.stopped ≡ true) → Steps Reads state c old e a new → (d n : ℕ) (login : TheName) → IsSoundServer state old → HasOwnSession state new d n login
-      → HasOwnSession state old d n login ⊎ (event_of c e ≡ opens (number_in d n) login)
+      → HasOwnSession state old d n login ⊎ ((event_of c e ≡ opens (number_in d n) login) × (a ≡ answer.Done tag.Open None None) × (HasOwnSession state old d n login → ⊥))
   event_open c e a stays steps d n login sound has =
       let w = sound.1.0 in
       let next = steps sound.0 w sound.1.1 in
@@ -57,19 +59,23 @@ module _ {S X : Type 0} (Reads : ReadingRelation) (state : S → StoreState) (ol
       elim (by_step w.standing.machine (number_in d n) login Reads w.counts next.0.counts (event_of c e) a next.0.standing.machine next.2.step
       (subst (λ (es : List (ℕ × Session)). HasSession es (number_in d n) login) sessions has.3)) [
         | inl before ↦ inl (w, sound.1.1, has.2, before, λ was. has.4 (stays was))
-        | inr opened ↦ inr opened
+        | inr opened ↦ inr (
+          opened.0,
+          opened.1,
+          λ was. opened.2 (subst (λ (es : List (ℕ × Session)). HasSession es (number_in d n) login) (was.1.sessions ∙ sym sound.1.1.sessions) was.3),
+        )
       ]
 
   pub statement_open : (c k : ℕ) (text : TheText) (a : Answer) → (old.stopped ≡ true → new.stopped ≡ true) → Steps Reads state c old (event.Statement k text) a new → (d n : ℕ) (login : TheName) → IsSoundServer state old → HasOwnSession state new d n login → HasOwnSession state old d n login
   statement_open c k text a stays steps d n login sound has = elim (event_open c (event.Statement k text) a stays steps d n login sound has) [
     | inl before ↦ before
-    | inr opened ↦ let never : ◌≡◌ {A = MachineEvent TheText} (executes (number_in c k) text) (opens (number_in d n) login) = opened in cc
+    | inr opened ↦ let never : ◌≡◌ {A = MachineEvent TheText} (executes (number_in c k) text) (opens (number_in d n) login) = opened.0 in cc
   ]
 
   pub close_open : (c k : ℕ) (a : Answer) → (old.stopped ≡ true → new.stopped ≡ true) → Steps Reads state c old (event.Close k) a new → (d n : ℕ) (login : TheName) → IsSoundServer state old → HasOwnSession state new d n login → HasOwnSession state old d n login
   close_open c k a stays steps d n login sound has = elim (event_open c (event.Close k) a stays steps d n login sound has) [
     | inl before ↦ before
-    | inr opened ↦ let never : ◌≡◌ {A = MachineEvent TheText} (closes (number_in c k)) (opens (number_in d n) login) = opened in cc
+    | inr opened ↦ let never : ◌≡◌ {A = MachineEvent TheText} (closes (number_in c k)) (opens (number_in d n) login) = opened.0 in cc
   ]
 
   pub same_own : new ≡ old → (d n : ℕ) (login : TheName) → HasOwnSession state new d n login → HasOwnSession state old d n login
@@ -84,15 +90,20 @@ module _ {S X : Type 0} (Reads : ReadingRelation) (state : S → StoreState) (ol
   opens_sound c k role entry a (takes runs admitted small made) sound = event_sound c (event.Open k role) a made sound
 
   pub opens_open : (c k : ℕ) (role : TheName) (entry : SessionEntry) (a : Answer) → OpensFor Reads state c k role entry a old new → (d n : ℕ) (login : TheName) → IsSoundServer state old → HasOwnSession state new d n login
-      → HasOwnSession state old d n login ⊎ ((c ≡ d) × ((k ≡ n) × (role ≡ login)))
+      → HasOwnSession state old d n login ⊎ ((c ≡ d) × ((k ≡ n) × (role ≡ login)) × TellsOpened (reply.Answer a) × (HasOwnSession state old d n login → ⊥))
   opens_open c k role entry a (has_stopped stopped refused is) d n login sound has = inl (same_own is d n login has)
   opens_open c k role entry a (turns_away runs away refused is) d n login sound has = inl (same_own is d n login has)
   opens_open c k role entry a (lacks_memory runs admitted refused is) d n login sound has = inl (same_own is d n login has)
   opens_open c k role entry a (takes runs admitted small made) d n login sound has = elim (event_open c (event.Open k role) a (event_stays c (event.Open k role) a made) made.steps d n login sound has) [
     | inl before ↦ inl before
     | inr opened ↦
-        let same = number_inside (number_in c k) (number_in d n) role login opened in
-        inr (client_apart c d n k has.2 small same, (session_apart c d n k has.2 small same, name_inside (number_in c k) (number_in d n) role login opened))
+        let same = number_inside (number_in c k) (number_in d n) role login opened.0 in
+        inr (
+          client_apart c d n k has.2 small same,
+          (session_apart c d n k has.2 small same, name_inside (number_in c k) (number_in d n) role login opened.0),
+          ap (λ (b : Answer). reply.Answer b) opened.1,
+          opened.2,
+        )
   ]
 
   opens_stopped : (c k : ℕ) (role : TheName) (entry : SessionEntry) (a : Answer) → OpensFor Reads state c k role entry a old new → old.stopped ≡ true → new.stopped ≡ true
@@ -125,7 +136,7 @@ module _ {S X : Type 0} (Reads : ReadingRelation) (state : S → StoreState) (ol
   steps_sound c want.OutOfMemory r made sound = absurd made
 
   pub steps_open : (c : ℕ) (w : Want) (r : Reply) (d n : ℕ) (login : TheName) → IsSoundServer state old → TakesStep Reads state c w r old new → HasOwnSession state new d n login
-      → HasOwnSession state old d n login ⊎ ((c ≡ d) × OpensSession w n login)
+      → HasOwnSession state old d n login ⊎ ((c ≡ d) × OpensSession w n login × TellsOpened r × (HasOwnSession state old d n login → ⊥))
   steps_open c (want.Event (event.Statement k text)) (reply.Answer a) d n login sound made has = inl (statement_open c k text a (event_stays c (event.Statement k text) a made) made.steps d n login sound has)
   steps_open c (want.Event (event.Close k)) (reply.Answer a) d n login sound made has = inl (close_open c k a (event_stays c (event.Close k) a made) made.steps d n login sound has)
   steps_open c (want.Open k role entry) (reply.Answer a) d n login sound made has = opens_open c k role entry a made d n login sound has

@@ -1,7 +1,8 @@
--- A session comes only by the event that opens it, and keeps its login role.
+-- A session comes only by the event that opens it, which is answered so, and keeps its login role.
 use Rattle.std.proofs.Common.{◌≡◌, ◌⊎◌, ◌∙◌, inl, inr, ℕ, Bool, true, false, cond, List, [], ◌∷◌, refl, sym, ap, subst, nat_eq, nat_le, length, is_some, Option, Some, None}
-use Rattle.std.proofs.lemmas.Bool.{eqb-true}
+use Rattle.std.proofs.lemmas.Bool.{eqb-true, eq-eqb}
 use Rattle.sql_types.specs.declared.answer.Answer.{Answer}
+use Rattle.sql_types.specs.declared.answer.Answer.TheVariants as answer
 use Rattle.sql_types.specs.declared.state.SqlState.TheVariants.{InvalidAuthorization, TooManyConnections, ConnectionNameInUse, IoError}
 use Rattle.sql_types.specs.declared.tag.Tag.TheVariants as tag
 use Rattle.abstract_database.specs.Lists.{TheName}
@@ -22,6 +23,17 @@ there_at false number e es s is later found = inr (later found)
 there : (es : List (ℕ × Session)) (number : ℕ) (s : Session) → session_of number es ≡ Some s → HasSession es number s.login
 there [] number s found = cc
 there (e ∷ es) number s found = there_at (nat_eq number e.0) number e es s refl (there es number s) found
+
+not_there_at : (b : Bool) (number : ℕ) (e : ℕ × Session) (es : List (ℕ × Session)) (l : TheName) → nat_eq number e.0 ≡ b
+    → (is_some (session_of number es) ≡ false → HasSession es number l → ⊥) → is_some (cond b (Some e.1) (session_of number es)) ≡ false → HasSession (e ∷ es) number l → ⊥
+not_there_at true number e es l is later none has = let wrong : true ≡ false = none in cc
+not_there_at false number e es l is later none (inl here) = let wrong : true ≡ false = sym (eq-eqb number e.0 (sym here.0)) ∙ is in cc
+not_there_at false number e es l is later none (inr rest) = later none rest
+
+-- no session is there where none has its number
+not_there : (es : List (ℕ × Session)) (number : ℕ) (l : TheName) → is_some (session_of number es) ≡ false → HasSession es number l → ⊥
+not_there [] number l none has = absurd has
+not_there (e ∷ es) number l none has = not_there_at (nat_eq number e.0) number e es l refl (not_there es number l) none has
 
 with_at : (b : Bool) (number : ℕ) (e : ℕ × Session) (es : List (ℕ × Session)) (s : Session) (n : ℕ) (l : TheName) → nat_eq number e.0 ≡ b
     → (HasSession (with_session es number s) n l → HasSession es n l ⊎ ((number ≡ n) × (s.login ≡ l)))
@@ -54,9 +66,13 @@ module _ (m : Machine) (n : ℕ) (l : TheName) where
   abbrev WasThere : Transition → Type 0
   WasThere t = HasSession t.machine.sessions n l → HasSession m.sessions n l
 
-  -- or the event opens it
+  -- the event opens it where it was not there, and is answered so
+  abbrev pub IsOpenedBy : {T : Type 0} → Event T → Answer → Type 0
+  IsOpenedBy event a = (event ≡ opens n l) × (a ≡ answer.Done tag.Open None None) × (HasSession m.sessions n l → ⊥)
+
+  -- the session was there before, or the event opens it
   abbrev Comes : Event Reading → Transition → Type 0
-  Comes event t = HasSession t.machine.sessions n l → HasSession m.sessions n l ⊎ (event ≡ opens n l)
+  Comes event t = HasSession t.machine.sessions n l → HasSession m.sessions n l ⊎ IsOpenedBy event t.answer
 
   after_statement : (number : ℕ) (s : Session) (t : Transition) → session_of number m.sessions ≡ Some s → SessionsAfter m number s t → WasThere t
   after_statement number s t found (all_stay is) has = subst (λ (es : List (ℕ × Session)). HasSession es n l) is has
@@ -74,23 +90,26 @@ module _ (m : Machine) (n : ℕ) (l : TheName) where
   closed number None has = has
   closed number (Some s) has = without_one m.sessions number n l has
 
-  opened_at : (number : ℕ) (login : TheName) (a b c : Bool)
-      → HasSession (cond a (refuses m ConnectionNameInUse) (cond b (refuses m TooManyConnections) (cond c (succeeds tag.Open (with_session_changed m number (record { login = login; role = login; block = Outside }))) (refuses m InvalidAuthorization)))).machine.sessions n l
-      → HasSession m.sessions n l ⊎ ((number ≡ n) × (login ≡ l))
-  opened_at number login true b c has = inl has
-  opened_at number login false true c has = inl has
-  opened_at number login false false true has = with_one m.sessions number (record { login = login; role = login; block = Outside }) n l has
-  opened_at number login false false false has = inl has
+  opened_at : (number : ℕ) (login : TheName) (a b c : Bool) → is_some (session_of number m.sessions) ≡ a
+      → Comes (opens number login) (cond a (refuses m ConnectionNameInUse) (cond b (refuses m TooManyConnections) (cond c (succeeds tag.Open (with_session_changed m number (record { login = login; role = login; block = Outside }))) (refuses m InvalidAuthorization))))
+  opened_at number login true b c is has = inl has
+  opened_at number login false true c is has = inl has
+  opened_at number login false false true is has = elim (with_one m.sessions number (record { login = login; role = login; block = Outside }) n l has) [
+    | inl old ↦ inl old
+    | inr it ↦ inr (
+      ap (λ (k : ℕ). opens k login) it.0 ∙ ap (λ (k : TheName). opens n k) it.1,
+      refl,
+      λ was. not_there m.sessions n l (subst (λ (k : ℕ). is_some (session_of k m.sessions) ≡ false) it.0 is) was,
+    )
+  ]
+  opened_at number login false false false is has = inl has
 
   running : (event : Event Reading) → Comes event (running_transition m event)
-  running (opens number login) has = elim (opened_at number login (is_some (session_of number m.sessions)) (nat_le 256 (length (own_sessions (client_of number) m.sessions))) (may_log_in m.committed login) has) [
-    | inl old ↦ inl old
-    | inr it ↦ inr (ap (λ (k : ℕ). opens k login) it.0 ∙ ap (λ (k : TheName). opens n k) it.1)
-  ]
+  running (opens number login) has = opened_at number login (is_some (session_of number m.sessions)) (nat_le 256 (length (own_sessions (client_of number) m.sessions))) (may_log_in m.committed login) refl has
   running (closes number) has = inl (closed number (session_of number m.sessions) has)
   running (executes number reading) has = inl (executed number reading (session_of number m.sessions) refl has)
 
-  stopped_or : (b : Bool) (event : Event Reading) → HasSession (cond b (refuses m IoError) (running_transition m event)).machine.sessions n l → HasSession m.sessions n l ⊎ (event ≡ opens n l)
+  stopped_or : (b : Bool) (event : Event Reading) → Comes event (cond b (refuses m IoError) (running_transition m event))
   stopped_or true event has = inl has
   stopped_or false event has = running event has
 
@@ -109,16 +128,19 @@ module _ (m : Machine) (n : ℕ) (l : TheName) where
   as_text Reads (closes number) event read is = let never : ◌≡◌ {A = Event Reading} (closes number) (opens n l) = sym read ∙ is in cc
   as_text Reads (executes number text) event read is = let never : ◌≡◌ {A = Event Reading} (executes number read.0) (opens n l) = sym read.1 ∙ is in cc
 
-  by_event : (Reads : ReadingRelation) (e : Event TheText) (t : Transition) → IsTransition Reads m e t → HasSession t.machine.sessions n l → HasSession m.sessions n l ⊎ (e ≡ opens n l)
+  by_event : (Reads : ReadingRelation) (e : Event TheText) (t : Transition) → IsTransition Reads m e t → HasSession t.machine.sessions n l → HasSession m.sessions n l ⊎ IsOpenedBy e t.answer
   by_event Reads e t is has =
-      elim (comes is.as_read (subst (λ (u : Transition). HasSession u.machine.sessions n l) is.is has)) [ inl old ↦ inl old | inr opened ↦ inr (as_text Reads e is.as_read is.read opened) ]
+      elim (comes is.as_read (subst (λ (u : Transition). HasSession u.machine.sessions n l) is.is has)) [
+        | inl old ↦ inl old
+        | inr opened ↦ inr (as_text Reads e is.as_read is.read opened.0, ap (λ (u : Transition). u.answer) is.is ∙ opened.1, opened.2)
+      ]
 
   same_sessions : (after : Machine) → after ≡ m → HasSession after.sessions n l → HasSession m.sessions n l
   same_sessions after is has = subst (λ (k : Machine). HasSession k.sessions n l) is has
 
-  -- a session that is open after an event over a store was open before, for the same role, or the event opens it for that role
+  -- a session that is open after an event over a store was open before, for the same role, or the event opens it for that role, and is answered so
   pub by_step : (Reads : ReadingRelation) (old new : Counts) (e : Event TheText) (a : Answer) (after : Machine) → IsStep Reads old new m e a after → HasSession after.sessions n l
-      → HasSession m.sessions n l ⊎ (e ≡ opens n l)
+      → HasSession m.sessions n l ⊎ IsOpenedBy e a
   by_step Reads old new e a after (by_transition is) has = by_event Reads e (record { answer = a; machine = after }) is has
   by_step Reads old new e a after (for_memory refused is may) has = inl (same_sessions after is has)
   by_step Reads old new e a after (for_space refused is may rises) has = inl (same_sessions after is has)

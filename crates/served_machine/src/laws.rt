@@ -19,8 +19,10 @@ use store::Store;
 use talks::clients::ServedClients;
 use talks::talk::Talk;
 
-/// Each session that a client has after some turns, and had not before them, was asked for in one of
-/// them, for the role that it is of, by a step whose place admitted that role where the server stood.
+/// Each session that a client has after some turns, and had not before them, was opened in one of them,
+/// by a step that its own client's conversation wanted, for the role that it is of, whose place admitted
+/// that role where the server stood. It was not there before that step, which was answered as one that
+/// opened it, and has been open since.
 pub fn sessions_are_admitted<S: Store, X: EventHandler, T: Talk, C: ServedClients<T>>()
     ensures { (old : ServedMachine S X) (before : C) (turns : List Turn) (new : ServedMachine S X)
         (after : C) → IsSoundServer S.state old.server
@@ -31,7 +33,8 @@ pub fn sessions_are_admitted<S: Store, X: EventHandler, T: Talk, C: ServedClient
 {}
 
 /// No session outlives its role: where a step has dropped a role of the committed database, each session
-/// for that role that is open once anybody was served after it was opened since, or the server has stopped.
+/// for that role that is open once anybody was served after that step was opened since, as `sessions_are_opened`
+/// of `talks` says it, or the server has stopped.
 /// This is said of courses in which each session was of a client that was there, as where none is open.
 pub fn no_session_outlives_its_role<S: Store, X: EventHandler, T: Talk, C: ServedClients<T>>()
     ensures { (old : ServedMachine S X) (before : C) (d : Exchange) (ds : List Exchange)

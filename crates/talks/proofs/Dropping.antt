@@ -5,7 +5,7 @@ use Rattle.talks.specs.declared.machine.Machine.{Ghosts as MachineGhosts}
 use Rattle.talks.specs.declared.clients.ServedClients.{Ghosts as ClientsGhosts}
 use Rattle.talks.specs.declared.want.Want.{Want}
 use Rattle.talks.specs.declared.want.Reply.{Reply}
-use Rattle.talks.specs.Wants.{Learnt, OpensSession}
+use Rattle.talks.specs.Wants.{Learnt, OpensSession, TellsOpened}
 use Rattle.talks.specs.Conversations.{ClientState, awaited, there, gone, IsGone, IsThere, wanted, Passes}
 use Rattle.talks.specs.Turns.{Turn, Exchange, steps, asks, waits, leaves, ends, LetsGo, ServesSomebody, learnt_in, Steps, Goes, Moves, TakesTurn, TakesTurns, HaveTheirRoles, OpenedIn, AreOfClients}
 use Rattle.talks.proofs.Sessions.{sound_after_steps, sound_after, opened}
@@ -27,7 +27,7 @@ module _ {M T C : Type 0} (m : MachineGhosts M) (t : TalkGhosts T) (k : ClientsG
     (steps_sound : (old new : M) (c : ℕ) (w : Want) (r : Reply) → m.Steps old c w r new → m.IsSound old → m.IsSound new)
     (tells_sound : (old new : M) (c : ℕ) (w : Want) (r : Reply) → m.Tells old c w r new → m.IsSound old → m.IsSound new)
     (closes_sound : (old new : M) (c : ℕ) → m.Closes old c new → m.IsSound old → m.IsSound new)
-    (steps_open : (old new : M) (c : ℕ) (w : Want) (r : Reply) (d n : ℕ) (login : List ℕ) → m.IsSound old → m.Steps old c w r new → m.Has new d n login → m.Has old d n login ⊎ ((c ≡ d) × OpensSession w n login))
+    (steps_open : (old new : M) (c : ℕ) (w : Want) (r : Reply) (d n : ℕ) (login : List ℕ) → m.IsSound old → m.Steps old c w r new → m.Has new d n login → m.Has old d n login ⊎ ((c ≡ d) × OpensSession w n login × TellsOpened r × (m.Has old d n login → ⊥)))
     (tells_open : (old new : M) (c : ℕ) (w : Want) (r : Reply) (d n : ℕ) (login : List ℕ) → m.IsSound old → m.Tells old c w r new → m.Has new d n login → m.Has old d n login)
     (closes_open : (old new : M) (c d n : ℕ) (login : List ℕ) → m.IsSound old → m.Closes old c new → m.Has new d n login → m.Has old d n login)
     (steps_stopped : (old new : M) (c : ℕ) (w : Want) (r : Reply) → m.Steps old c w r new → m.stopped old ≡ true → m.stopped new ≡ true)
@@ -138,7 +138,7 @@ module _ {M T C : Type 0} (m : MachineGhosts M) (t : TalkGhosts T) (k : ClientsG
     opened_here : (old : M) (before : C) (turns : List Turn) (new : M) (after : C) → m.IsSound old → (took : TakesTurns m t k old before turns new after) → ((c n : ℕ) → m.Has old c n role → ⊥)
         → (c n : ℕ) → m.Has new c n role → (m.stopped new ≡ true) ⊎ OpenedIn m t k old before turns new after took c n role
     opened_here old before turns new after sound took none c n has = elim (opened m t k steps_sound tells_sound closes_sound steps_open tells_open closes_open old before turns new after sound took c n role has) [
-      | inl was ↦ absurd (none c n was)
+      | inl was ↦ absurd (none c n was.0)
       | inr is ↦ inr is
     ]
 

@@ -5,9 +5,9 @@ use Rattle.talks.specs.declared.machine.Machine.{Ghosts as MachineGhosts}
 use Rattle.talks.specs.declared.clients.ServedClients.{Ghosts as ClientsGhosts}
 use Rattle.talks.specs.declared.want.Want.{Want}
 use Rattle.talks.specs.declared.want.Reply.{Reply}
-use Rattle.talks.specs.Wants.{Learnt, OpensSession}
+use Rattle.talks.specs.Wants.{Learnt, OpensSession, TellsOpened}
 use Rattle.talks.specs.Conversations.{ClientState, awaited, there, gone, IsGone, wanted, Passes}
-use Rattle.talks.specs.Turns.{Turn, Exchange, steps, asks, waits, leaves, ends, LetsGo, WasLetGo, learnt_in, Steps, TakesTurn, TakesTurns, HasNone, OpenedBySteps, OpenedHere, OpenedIn}
+use Rattle.talks.specs.Turns.{Turn, Exchange, steps, asks, waits, leaves, ends, LetsGo, WasLetGo, learnt_in, Steps, TakesTurn, TakesTurns, HasNone, StaysOpenInSteps, StaysOpenInTurn, StaysOpenInTurns, OpenedBySteps, OpenedHere, OpenedIn}
 
 -- who has gone stays so, and wants nothing
 pub stays_gone : {T : Type 0} (t : TalkGhosts T) (made : T → Type 0) (a b : ClientState T) (xs : List Learnt) → Passes t made a xs b → IsGone a → IsGone b
@@ -26,7 +26,7 @@ module _ {M T C : Type 0} (m : MachineGhosts M) (t : TalkGhosts T) (k : ClientsG
     (steps_sound : (old new : M) (c : ℕ) (w : Want) (r : Reply) → m.Steps old c w r new → m.IsSound old → m.IsSound new)
     (tells_sound : (old new : M) (c : ℕ) (w : Want) (r : Reply) → m.Tells old c w r new → m.IsSound old → m.IsSound new)
     (closes_sound : (old new : M) (c : ℕ) → m.Closes old c new → m.IsSound old → m.IsSound new)
-    (steps_open : (old new : M) (c : ℕ) (w : Want) (r : Reply) (d n : ℕ) (login : List ℕ) → m.IsSound old → m.Steps old c w r new → m.Has new d n login → m.Has old d n login ⊎ ((c ≡ d) × OpensSession w n login))
+    (steps_open : (old new : M) (c : ℕ) (w : Want) (r : Reply) (d n : ℕ) (login : List ℕ) → m.IsSound old → m.Steps old c w r new → m.Has new d n login → m.Has old d n login ⊎ ((c ≡ d) × OpensSession w n login × TellsOpened r × (m.Has old d n login → ⊥)))
     (tells_open : (old new : M) (c : ℕ) (w : Want) (r : Reply) (d n : ℕ) (login : List ℕ) → m.IsSound old → m.Tells old c w r new → m.Has new d n login → m.Has old d n login)
     (closes_open : (old new : M) (c d n : ℕ) (login : List ℕ) → m.IsSound old → m.Closes old c new → m.Has new d n login → m.Has old d n login) where
   -- what the machine rests on holds after a turn as before
@@ -41,24 +41,34 @@ module _ {M T C : Type 0} (m : MachineGhosts M) (t : TalkGhosts T) (k : ClientsG
   sound_after old before (leaves client) new after took sound = closes_sound old new client took.1 sound
   sound_after old before (ends client w) new after took sound = subst m.IsSound (sym took.4) sound
 
-  by_steps : (clients : C) (old : M) (ds : List Exchange) (new : M) → m.IsSound old → (made : Steps m t k clients old ds new) (c n : ℕ) (login : List ℕ) → m.Has new c n login → m.Has old c n login ⊎ OpenedBySteps m t k clients old ds new made c n login
-  by_steps clients old [] new sound made c n login has = inl (subst (λ (s : M). m.Has s c n login) made has)
+  -- a session that is open after some steps was so in each state that they go through, or one of them opened it
+  by_steps : (clients : C) (old : M) (ds : List Exchange) (new : M) → m.IsSound old → (made : Steps m t k clients old ds new) (c n : ℕ) (login : List ℕ) → m.Has new c n login
+      → (m.Has old c n login × StaysOpenInSteps m t k clients old ds new made c n login) ⊎ OpenedBySteps m t k clients old ds new made c n login
+  by_steps clients old [] new sound made c n login has = inl (subst (λ (s : M). m.Has s c n login) made has, has)
   by_steps clients old (d ∷ ds) new sound made c n login has = elim (by_steps clients made.0 ds new (steps_sound old made.0 d.client d.want d.reply made.4 sound) made.5 c n login has) [
-    | inl earlier ↦ elim (steps_open old made.0 d.client d.want d.reply c n login sound made.4 earlier) [ inl before ↦ inl before | inr is ↦ inr (inl (is.0, is.1, made.4)) ]
+    | inl later ↦ elim (steps_open old made.0 d.client d.want d.reply c n login sound made.4 later.0) [
+      | inl before ↦ inl (before, (before, later.1))
+      | inr is ↦ inr (inl ((is.0, is.1, is.2, is.3, later.0, made.4), later.1))
+    ]
     | inr later ↦ inr (inr later)
   ]
 
-  here : (old : M) (before : C) (turn : Turn) (new : M) (after : C) → m.IsSound old → (took : TakesTurn m t k old before turn new after) (c n : ℕ) (login : List ℕ) → m.Has new c n login → m.Has old c n login ⊎ OpenedHere m t k old before turn new after took c n login
+  here : (old : M) (before : C) (turn : Turn) (new : M) (after : C) → m.IsSound old → (took : TakesTurn m t k old before turn new after) (c n : ℕ) (login : List ℕ) → m.Has new c n login
+      → (m.Has old c n login × StaysOpenInTurn m t k old before turn new after took c n login) ⊎ OpenedHere m t k old before turn new after took c n login
   here old before (steps d ds) new after sound took c n login has = by_steps before old (d ∷ ds) new sound took.0 c n login has
-  here old before (asks d) new after sound took c n login has = inl (tells_open old new d.client d.want d.reply c n login sound took.2 has)
-  here old before (waits client w) new after sound took c n login has = inl (subst (λ (s : M). m.Has s c n login) took.2 has)
-  here old before (leaves client) new after sound took c n login has = inl (closes_open old new client c n login sound took.1 has)
-  here old before (ends client w) new after sound took c n login has = inl (subst (λ (s : M). m.Has s c n login) took.4 has)
+  here old before (asks d) new after sound took c n login has = let was = tells_open old new d.client d.want d.reply c n login sound took.2 has in inl (was, (was, has))
+  here old before (waits client w) new after sound took c n login has = let was = subst (λ (s : M). m.Has s c n login) took.2 has in inl (was, (was, has))
+  here old before (leaves client) new after sound took c n login has = let was = closes_open old new client c n login sound took.1 has in inl (was, (was, has))
+  here old before (ends client w) new after sound took c n login has = let was = subst (λ (s : M). m.Has s c n login) took.4 has in inl (was, (was, has))
 
-  pub opened : (old : M) (before : C) (turns : List Turn) (new : M) (after : C) → m.IsSound old → (took : TakesTurns m t k old before turns new after) (c n : ℕ) (login : List ℕ) → m.Has new c n login → m.Has old c n login ⊎ OpenedIn m t k old before turns new after took c n login
-  opened old before [] new after sound took c n login has = inl (subst (λ (s : M). m.Has s c n login) took.0 has)
+  pub opened : (old : M) (before : C) (turns : List Turn) (new : M) (after : C) → m.IsSound old → (took : TakesTurns m t k old before turns new after) (c n : ℕ) (login : List ℕ) → m.Has new c n login
+      → (m.Has old c n login × StaysOpenInTurns m t k old before turns new after took c n login) ⊎ OpenedIn m t k old before turns new after took c n login
+  opened old before [] new after sound took c n login has = inl (subst (λ (s : M). m.Has s c n login) took.0 has, has)
   opened old before (u ∷ turns) new after sound took c n login has = elim (opened took.1 took.2 turns new after (sound_after old took.0 u took.1 took.2 took.4 sound) took.6 c n login has) [
-    | inl earlier ↦ elim (here old took.0 u took.1 took.2 sound took.4 c n login earlier) [ inl x ↦ inl x | inr y ↦ inr (inl y) ]
+    | inl later ↦ elim (here old took.0 u took.1 took.2 sound took.4 c n login later.0) [
+      | inl stays ↦ inl (stays.0, (stays.1, later.1))
+      | inr now ↦ inr (inl (now, later.1))
+    ]
     | inr later ↦ inr (inr later)
   ]
 

@@ -7,7 +7,7 @@ use Rattle.talks.specs.declared.machine.Machine.{Ghosts as MachineGhosts}
 use Rattle.talks.specs.declared.clients.ServedClients.{Ghosts as ClientsGhosts}
 use Rattle.talks.specs.declared.clients.EndCause.{EndCause}
 use Rattle.talks.specs.declared.clients.EndCause.TheVariants as end_cause
-use Rattle.talks.specs.Wants.{Learnt, learnt, own, WantsStep, WantsQuestion, OpensSession, RefusesMemory, refuses_lock}
+use Rattle.talks.specs.Wants.{Learnt, learnt, own, WantsStep, WantsQuestion, OpensSession, TellsOpened, RefusesMemory, refuses_lock}
 use Rattle.talks.specs.Conversations.{IsGone, IsThere, wanted, ending, Passes}
 use Rattle.talks.specs.Clients.{Contention, CutsOffOrExpels, IsStillServed, contended, forgotten, without, is_behind, IsPutLast, IsLeaving, NoneHasLost, Moved}
 
@@ -244,14 +244,29 @@ module _ {M T C : Type 0} (m : MachineGhosts M) (t : TalkGhosts T) (k : ClientsG
 
   -- ---- which of them opened a session
 
-  -- a step on what a client wanted, which opens this session of it for this role, from where the machine stood
-  abbrev pub Opens : M → Exchange → M → ℕ → ℕ → List ℕ → Type 0
-  Opens old d new c n login = (d.client ≡ c) × OpensSession d.want n login × m.Steps old d.client d.want d.reply new
+  -- a session is open in each state of the machine that these steps go through
+  abbrev pub StaysOpenInSteps : (clients : C) (old : M) (ds : List Exchange) (new : M) → Steps clients old ds new → ℕ → ℕ → List ℕ → Type 0
+  StaysOpenInSteps clients old [] new made c n login = m.Has new c n login
+  StaysOpenInSteps clients old (d ∷ ds) new made c n login = m.Has old c n login × StaysOpenInSteps clients made.0 ds new made.5 c n login
 
-  -- one of these steps did
+  -- and that this turn does
+  abbrev pub StaysOpenInTurn : (old : M) (before : C) (turn : Turn) (new : M) (after : C) → TakesTurn old before turn new after → ℕ → ℕ → List ℕ → Type 0
+  StaysOpenInTurn old before (steps d ds) new after took c n login = StaysOpenInSteps before old (d ∷ ds) new took.0 c n login
+  StaysOpenInTurn old before turn new after took c n login = m.Has old c n login × m.Has new c n login
+
+  -- and that these turns do
+  abbrev pub StaysOpenInTurns : (old : M) (before : C) (turns : List Turn) (new : M) (after : C) → TakesTurns old before turns new after → ℕ → ℕ → List ℕ → Type 0
+  StaysOpenInTurns old before [] new after took c n login = m.Has new c n login
+  StaysOpenInTurns old before (turn ∷ turns) new after took c n login = StaysOpenInTurn old took.0 turn took.1 took.2 took.4 c n login × StaysOpenInTurns took.1 took.2 turns new after took.6 c n login
+
+  -- a step opens this session of this client for this role: its conversation wanted that, it is answered so, and the session is there, and was not before
+  abbrev pub Opens : M → Exchange → M → ℕ → ℕ → List ℕ → Type 0
+  Opens old d new c n login = (d.client ≡ c) × OpensSession d.want n login × TellsOpened d.reply × (m.Has old c n login → ⊥) × m.Has new c n login × m.Steps old d.client d.want d.reply new
+
+  -- one of these steps did, and since then the session stays open
   abbrev pub OpenedBySteps : (clients : C) (old : M) (ds : List Exchange) (new : M) → Steps clients old ds new → ℕ → ℕ → List ℕ → Type 0
   OpenedBySteps clients old [] new made c n login = ⊥
-  OpenedBySteps clients old (d ∷ ds) new made c n login = Opens old d made.0 c n login ⊎ OpenedBySteps clients made.0 ds new made.5 c n login
+  OpenedBySteps clients old (d ∷ ds) new made c n login = (Opens old d made.0 c n login × StaysOpenInSteps clients made.0 ds new made.5 c n login) ⊎ OpenedBySteps clients made.0 ds new made.5 c n login
 
   abbrev pub OpenedHere : (old : M) (before : C) (turn : Turn) (new : M) (after : C) → TakesTurn old before turn new after → ℕ → ℕ → List ℕ → Type 0
   OpenedHere old before (steps d ds) new after took c n login = OpenedBySteps before old (d ∷ ds) new took.0 c n login
@@ -260,10 +275,11 @@ module _ {M T C : Type 0} (m : MachineGhosts M) (t : TalkGhosts T) (k : ClientsG
   OpenedHere old before (leaves client) new after took c n login = ⊥
   OpenedHere old before (ends client w) new after took c n login = ⊥
 
-  -- one of these turns did
+  -- a step of one of these turns did, and since then the session stays open
   abbrev pub OpenedIn : (old : M) (before : C) (turns : List Turn) (new : M) (after : C) → TakesTurns old before turns new after → ℕ → ℕ → List ℕ → Type 0
   OpenedIn old before [] new after took c n login = ⊥
-  OpenedIn old before (turn ∷ turns) new after took c n login = OpenedHere old took.0 turn took.1 took.2 took.4 c n login ⊎ OpenedIn took.1 took.2 turns new after took.6 c n login
+  OpenedIn old before (turn ∷ turns) new after took c n login =
+      (OpenedHere old took.0 turn took.1 took.2 took.4 c n login × StaysOpenInTurns took.1 took.2 turns new after took.6 c n login) ⊎ OpenedIn took.1 took.2 turns new after took.6 c n login
 
   -- ---- roles that are dropped
 

@@ -1,9 +1,10 @@
 -- What a conversation wants, and what it learns.
-use Rattle.std.specs.Prelude.{◌≡◌, ◌==◌, ℕ, Bool, true, false, List, [], ◌∷◌, Result, Ok, Err, if◌then◌else◌}
+use Rattle.std.specs.Prelude.{◌≡◌, ◌==◌, ℕ, Bool, true, false, List, [], ◌∷◌, None, Result, Ok, Err, if◌then◌else◌}
 use Rattle.std.specs.declared.alloc.AllocError.{AllocError}
 use Rattle.sql_types.specs.declared.answer.Answer.TheVariants as answer
 use Rattle.sql_types.specs.declared.event.Event.TheVariants as event
 use Rattle.sql_types.specs.declared.state.SqlState.TheVariants.{LockNotAvailable, OutOfMemory}
+use Rattle.sql_types.specs.declared.tag.Tag.TheVariants as tag
 use Rattle.talks.specs.declared.want.Want.{Want}
 use Rattle.talks.specs.declared.want.Want.TheVariants as want
 use Rattle.talks.specs.declared.want.Reply.{Reply}
@@ -54,6 +55,10 @@ own d c x = if d == c then x ∷ [] else []
 abbrev pub OpensSession : Want → ℕ → List ℕ → Type 0
 OpensSession (want.Open session login entry) n role = (session ≡ n) × (login ≡ role)
 OpensSession _ n role = ⊥
+
+-- a step is answered as one that opened a session
+abbrev pub TellsOpened : Reply → Type 0
+TellsOpened r = r ≡ reply.Answer (answer.Done tag.Open None None)
 
 -- a step is refused for memory
 abbrev pub RefusesMemory : Reply → Type 0

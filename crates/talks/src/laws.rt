@@ -19,8 +19,9 @@ pub fn pieces_make_no_difference<T: Talk>()
         → Heard T.Talk t (bytes ++ piece) (xs ++ ys) (said ++ also) left v }
 {}
 
-/// Each session that a client has after some turns, and had not before them, was opened in one of
-/// them, by a step of the machine as it stood then, which that client's conversation wanted.
+/// Each session that a client has after some turns, and had not before them, was opened in one of them,
+/// by a step of the machine as it stood then, which that client's conversation wanted. It was not there
+/// before that step, which was answered as one that opened it, and has been open since.
 pub fn sessions_are_opened<M: Machine, T: Talk, C: ServedClients<T>>()
     ensures { (old : M) (before : C) (turns : List Turn) (new : M) (after : C) → M.IsSound old
         → (took : TakesTurns M.Machine T.Talk C.ServedClients old before turns new after) (c n : ℕ) (login : List ℕ)
@@ -50,7 +51,7 @@ pub fn sessions_are_of_clients_there<M: Machine, T: Talk, C: ServedClients<T>>()
 {}
 
 /// No session outlives its role: of a role that a step has dropped, each session that is open once anybody
-/// was served after it was opened since, or the machine has stopped.
+/// was served after that step was opened since, as `sessions_are_opened` says it, or the machine has stopped.
 pub fn no_session_outlives_its_role<M: Machine, T: Talk, C: ServedClients<T>>()
     ensures { (old : M) (before : C) (d : Exchange) (ds : List Exchange) (turns : List Turn) (new : M)
         (after : C) (role : List ℕ) → M.IsSound old

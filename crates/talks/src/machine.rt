@@ -1,7 +1,7 @@
 //! What answers many conversations, one after the other.
 
 ghost use Rattle.std.specs.Prelude.{◌≡◌, ◌⊎◌, true, false, ℕ, List, Bool, Option};
-ghost use Rattle.talks.specs.Wants.{WantsStep, WantsQuestion, FitsWant, OpensSession, RefusesMemory, TellsWhether, HasLostRole};
+ghost use Rattle.talks.specs.Wants.{WantsStep, WantsQuestion, FitsWant, OpensSession, TellsOpened, RefusesMemory, TellsWhether, HasLostRole};
 ghost use Rattle.talks.specs.declared.want.Want.{Want as TheWant};
 ghost use Rattle.talks.specs.declared.want.Reply.{Reply as TheReply};
 
@@ -129,10 +129,11 @@ pub trait Machine {
     /// And after the end of a session.
     ghost closes_sound: { (old new : Self) (c : ℕ) → Closes old c new → IsSound old → IsSound new };
 
-    /// A session comes only by the step that opens it, for the client that wants it.
+    /// A session comes only by the step that opens it, for the client that wants it: it was not there
+    /// before, and the step is answered as one that opened it.
     ghost steps_open: { (old new : Self) (c : ℕ) (w : TheWant) (r : TheReply) (d n : ℕ) (login : List ℕ)
         → IsSound old → Steps old c w r new → Has new d n login
-        → Has old d n login ⊎ ((c ≡ d) × OpensSession w n login) };
+        → Has old d n login ⊎ ((c ≡ d) × OpensSession w n login × TellsOpened r × (Has old d n login → ⊥)) };
 
     /// No question opens one.
     ghost tells_open: { (old new : Self) (c : ℕ) (w : TheWant) (r : TheReply) (d n : ℕ) (login : List ℕ)

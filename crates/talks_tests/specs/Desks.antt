@@ -66,7 +66,7 @@ Sits c n login old new = ((c ≡ 0) × (old.first ≡ None) × IsSession new.fir
 
 abbrev pub SeatsClient : ℕ → ℕ → List ℕ → Answer → Desk → Desk → Type 0
 SeatsClient c n login (answer.Refused state) old new = Keeps old new
-SeatsClient c n login (answer.Done t count warning) old new = (t ≡ tag.Open) × (count ≡ Some new.steps) × Sits c n login old new × (new.lock ≡ old.lock)
+SeatsClient c n login (answer.Done t count warning) old new = (t ≡ tag.Open) × (count ≡ None) × (warning ≡ None) × Sits c n login old new × (new.lock ≡ old.lock)
 SeatsClient c n login (answer.Rows rows) old new = ⊥
 
 -- the session of a client ends, and it holds no lock

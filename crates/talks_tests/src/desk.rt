@@ -66,11 +66,11 @@ impl Desk {
         let session = DeskSession { number, login };
         if client == 0 && self.first.is_none() {
             self.first = Some(session);
-            return self.done(Tag::Open);
+            return opened();
         }
         if client == 1 && self.second.is_none() {
             self.second = Some(session);
-            return self.done(Tag::Open);
+            return opened();
         }
         Answer::Refused(SqlState::InsufficientPrivilege)
     }
@@ -278,6 +278,17 @@ impl Machine for Desk {
 
     fn close_next(&mut self, client: u32) -> bool {
         self.end(client)
+    }
+}
+
+// The answer to a step that opened a session, which has no count.
+fn opened() -> Answer
+    ensures { result ≡ Answer.Done Tag.Open None None }
+{
+    Answer::Done {
+        tag: Tag::Open,
+        count: None,
+        warning: None,
     }
 }
 
