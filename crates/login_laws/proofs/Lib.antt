@@ -1,6 +1,15 @@
 pub mod Doing
+pub mod NewSessions
 pub mod Opening
 pub mod Entitling
+pub mod Telling
+pub mod ToldInFrames
+pub mod ToldInMessages
 pub mod Showing
+pub mod Entered
 pub mod ComingIn
+pub mod TalkGhosts
+pub mod Inside
+pub mod Placed
+pub mod Entries
 pub mod Runs

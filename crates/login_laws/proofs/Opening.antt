@@ -16,8 +16,9 @@ use Rattle.served_machine.specs.Served.{TakesStep}
 use Rattle.served_machine.specs.Sessions.{HasOwnSession, IsSoundServer}
 use Rattle.served_machine.specs.ServedLaws.{steps_sound, steps_open, tells_open, closes_open}
 use Rattle.login_laws.specs.Done.{Done, done_by_steps, done_in, all_done}
-use Rattle.login_laws.specs.Answers.{WasOpenedFor, IsAnswerOf}
-use Rattle.login_laws.proofs.Doing.{turn_keeps}
+use Rattle.login_laws.specs.Answers.{IsOpenThroughout, StayedOpen, WasOpenedFor, IsAnswerOf}
+use Rattle.login_laws.proofs.Doing.{all_on, turn_keeps}
+use Rattle.login_laws.proofs.NewSessions.{opens_new}
 
 -- the numbers of two clients' sessions are apart
 client_apart : (c d n k : ℕ) → n < 2 ^ 32 → k < 2 ^ 32 → number_in d n ≡ number_in c k → c ≡ d
@@ -26,21 +27,32 @@ client_apart c d n k small less same = omega (arith, small, less, same)
 session_apart : (c d n k : ℕ) → n < 2 ^ 32 → k < 2 ^ 32 → number_in d n ≡ number_in c k → k ≡ n
 session_apart c d n k small less same = omega (arith, small, less, same)
 
-module _ {S X : Type 0} where
-  opened_on : (xs ys : List (Done S X)) (c n : ℕ) (login : TheName) → WasOpenedFor xs c n login → WasOpenedFor (xs ++ ys) c n login
-  opened_on xs ys c n login it = record {
+module _ {S X : Type 0} (state : S → StoreState) where
+  -- what was opened, and what was there, stays open through more
+  opened_on : (xs ys : List (Done S X)) (c n : ℕ) (login : TheName) → IsOpenThroughout state ys c n login → WasOpenedFor state xs c n login → WasOpenedFor state (xs ++ ys) c n login
+  opened_on xs ys c n login through it = record {
     past = it.past;
     opening = it.opening;
     later = it.later ++ ys;
     is_done = ap (λ (l : List (Done S X)). l ++ ys) it.is_done ∙ append_assoc it.past (it.opening ∷ it.later) ys;
     client = it.client;
-    opens = it.opens;
+    opened = record {
+      opens = it.opened.opens;
+      let_in = it.opened.let_in;
+      answered = it.opened.answered;
+      was_new = it.opened.was_new;
+      stays = all_on (λ (x : Done S X). HasOwnSession state x.server it.opening.exchange.client n login) it.later ys it.opened.stays
+          (subst (λ (d : ℕ). IsOpenThroughout state ys d n login) (sym it.client) through);
+    };
   }
 
+  stayed_on : (first : Server S X) (xs ys : List (Done S X)) (c n : ℕ) (login : TheName) → IsOpenThroughout state ys c n login → StayedOpen state first xs c n login → StayedOpen state first (xs ++ ys) c n login
+  stayed_on first xs ys c n login through it = (it.0, all_on (λ (x : Done S X). HasOwnSession state x.server c n login) xs ys it.1 through)
+
 module _ {S X : Type 0} (Reads : ReadingRelation) (state : S → StoreState) (first : Server S X) where
-  -- where a server stands each session of a client was open at first, or was opened in these
+  -- where a server stands each session of a client was open at first and stayed so, or was opened in these
   abbrev pub ComesFrom : List (Done S X) → Server S X → Type 0
-  ComesFrom past now = (c n : ℕ) (login : TheName) → HasOwnSession state now c n login → HasOwnSession state first c n login ⊎ WasOpenedFor past c n login
+  ComesFrom past now = (c n : ℕ) (login : TheName) → HasOwnSession state now c n login → StayedOpen state first past c n login ⊎ WasOpenedFor state past c n login
 
   -- so it was before each of these, after those
   abbrev pub EachComesFrom : List (Done S X) → List (Done S X) → Type 0
@@ -57,17 +69,32 @@ module _ {S X : Type 0} (Reads : ReadingRelation) (state : S → StoreState) (fi
   pick_from before (y ∷ past) later x each =
       subst (λ (l : List (Done S X)). ComesFrom l x.server) (append_assoc before (y ∷ []) past) (pick_from (before ++ y ∷ []) past later x each.1)
 
+  on : (past ys : List (Done S X)) (c n : ℕ) (login : TheName) → IsOpenThroughout state ys c n login → StayedOpen state first past c n login ⊎ WasOpenedFor state past c n login
+      → StayedOpen state first (past ++ ys) c n login ⊎ WasOpenedFor state (past ++ ys) c n login
+  on past ys c n login through (inl was) = inl (stayed_on state first past ys c n login through was)
+  on past ys c n login through (inr opened) = inr (opened_on state past ys c n login through opened)
+
   -- one step more
   step_on : (past : List (Done S X)) (x : Done S X) (next : Server S X) → IsSoundServer state x.server → TakesStep Reads state x.exchange.client x.exchange.want x.exchange.reply x.server next
       → ComesFrom past x.server → ComesFrom (past ++ x ∷ []) next
   step_on past x next sound made come d n login has = elim (steps_open Reads state x.server next x.exchange.client x.exchange.want x.exchange.reply d n login sound made has) [
-    | inl before ↦ elim (come d n login before) [ inl was ↦ inl was | inr opened ↦ inr (opened_on past (x ∷ []) d n login opened) ]
-    | inr it ↦ inr (record { past = past; opening = x; later = []; is_done = refl; client = it.0; opens = it.1 })
+    | inl before ↦ on past (x ∷ []) d n login (before, tt) (come d n login before)
+    | inr it ↦
+        let new = opens_new Reads state x.server next x.exchange.client x.exchange.want x.exchange.reply n login sound it.1 it.2 made in
+        inr (record {
+          past = past;
+          opening = x;
+          later = [];
+          is_done = refl;
+          client = it.0;
+          opened = record { opens = it.1; let_in = new.0; answered = it.2; was_new = new.1; stays = tt };
+        })
   ]
 
-  -- nothing more is open
-  more_none : (past ys : List (Done S X)) (old new : Server S X) → ((d n : ℕ) (login : TheName) → HasOwnSession state new d n login → HasOwnSession state old d n login) → ComesFrom past old → ComesFrom (past ++ ys) new
-  more_none past ys old new opens come d n login has = elim (come d n login (opens d n login has)) [ inl was ↦ inl was | inr opened ↦ inr (opened_on past ys d n login opened) ]
+  -- nothing more is open, and what is open was so through these
+  more_none : (past ys : List (Done S X)) (old new : Server S X) → ((d n : ℕ) (login : TheName) → HasOwnSession state new d n login → HasOwnSession state old d n login)
+      → ((d n : ℕ) (login : TheName) → HasOwnSession state old d n login → IsOpenThroughout state ys d n login) → ComesFrom past old → ComesFrom (past ++ ys) new
+  more_none past ys old new opens through come d n login has = let had = opens d n login has in on past ys d n login (through d n login had) (come d n login had)
 
   module _ {T C : Type 0} (t : TalkGhosts T) (k : ClientsGhosts C T) where
     -- what is said of some steps, a turn, and all turns
@@ -88,13 +115,13 @@ module _ {S X : Type 0} (Reads : ReadingRelation) (state : S → StoreState) (fi
         → ComesFrom past old.server → Goes past (done_in Reads state t k old before turn new after took) new.server
     here past old before (steps d ds) new after took sound come = by_steps past before old (d ∷ ds) new took.0 sound come
     here past old before (asks d) new after took sound come =
-        ((come, tt), more_none past (record { server = old.server; exchange = d } ∷ []) old.server new.server (λ e n login has. tells_open Reads state old.server new.server d.client d.want d.reply e n login sound took.2 has) come)
+        ((come, tt), more_none past (record { server = old.server; exchange = d } ∷ []) old.server new.server (λ e n login has. tells_open Reads state old.server new.server d.client d.want d.reply e n login sound took.2 has) (λ e n login had. (had, tt)) come)
     here past old before (waits client w) new after took sound come =
-        (tt, more_none past [] old.server new.server (λ e n login has. subst (λ (m : ServedMachine S X). HasOwnSession state m.server e n login) took.2 has) come)
+        (tt, more_none past [] old.server new.server (λ e n login has. subst (λ (m : ServedMachine S X). HasOwnSession state m.server e n login) took.2 has) (λ e n login had. tt) come)
     here past old before (leaves client) new after took sound come =
-        (tt, more_none past [] old.server new.server (λ e n login has. closes_open Reads state old.server new.server client e n login sound took.1 has) come)
+        (tt, more_none past [] old.server new.server (λ e n login has. closes_open Reads state old.server new.server client e n login sound took.1 has) (λ e n login had. tt) come)
     here past old before (ends client w) new after took sound come =
-        (tt, more_none past [] old.server new.server (λ e n login has. subst (λ (m : ServedMachine S X). HasOwnSession state m.server e n login) took.4 has) come)
+        (tt, more_none past [] old.server new.server (λ e n login has. subst (λ (m : ServedMachine S X). HasOwnSession state m.server e n login) took.4 has) (λ e n login had. tt) come)
 
     all_from : (past : List (Done S X)) (old : ServedMachine S X) (before : C) (turns : List Turn) (new : ServedMachine S X) (after : C) (took : TakesTurns (machine_of Reads state) t k old before turns new after) → IsSoundServer state old.server
         → ComesFrom past old.server → Goes past (all_done Reads state t k old before turns new after took) new.server
@@ -114,16 +141,16 @@ module _ {S X T C : Type 0} (Reads : ReadingRelation) (state : S → StoreState)
   abbrev pub done : List (Done S X)
   done = all_done Reads state t k old before turns new after took
 
-  pub all_opened : (c n : ℕ) (login : TheName) → HasOwnSession state new.server c n login → HasOwnSession state old.server c n login ⊎ WasOpenedFor done c n login
-  all_opened = (all_from Reads state old.server t k [] old before turns new after took sound (λ c n login has. inl has)).1
+  pub all_opened : (c n : ℕ) (login : TheName) → HasOwnSession state new.server c n login → StayedOpen state old.server done c n login ⊎ WasOpenedFor state done c n login
+  all_opened = (all_from Reads state old.server t k [] old before turns new after took sound (λ c n login has. inl (has, tt))).1
 
   pub open_there : (past : List (Done S X)) (x : Done S X) (later : List (Done S X)) → done ≡ past ++ x ∷ later → ComesFrom Reads state old.server past x.server
   open_there past x later is =
-      let each = (all_from Reads state old.server t k [] old before turns new after took sound (λ c n login has. inl has)).0 in
+      let each = (all_from Reads state old.server t k [] old before turns new after took sound (λ c n login has. inl (has, tt))).0 in
       pick_from Reads state old.server [] past later x (subst (λ (l : List (Done S X)). EachComesFrom Reads state old.server [] l) is each)
 
   pub answered : (past : List (Done S X)) (x : Done S X) (later : List (Done S X)) → done ≡ past ++ x ∷ later → (d m : ℕ) (login : TheName) → m < 2 ^ 32 → IsAnswerOf state x (number_in d m) login
-      → (x.exchange.client ≡ d) × (HasOwnSession state old.server d m login ⊎ WasOpenedFor past d m login)
+      → (x.exchange.client ≡ d) × (StayedOpen state old.server past d m login ⊎ WasOpenedFor state past d m login)
   answered past x later is d m login small answer =
       let own = client_apart x.exchange.client d m answer.own small answer.is_open.2 answer.number_is in
       let same = session_apart x.exchange.client d m answer.own small answer.is_open.2 answer.number_is in

@@ -1,5 +1,6 @@
 -- From what a conversation found to what was kept.
-use Rattle.std.proofs.Common.{◌≡◌, ℕ, List, [], ◌∷◌, ◌++◌, refl, sym, ap, subst}
+use Rattle.std.proofs.Common.{◌≡◌, ◌∙◌, ℕ, List, [], ◌∷◌, ◌++◌, refl, sym, ap, subst}
+use Rattle.std.proofs.lemmas.List.{append_assoc}
 use Rattle.std.specs.List.{AllByRecursion}
 use Rattle.store.specs.Store.{StoreState}
 use Rattle.abstract_database.specs.Lists.{TheName}
@@ -7,20 +8,19 @@ use Rattle.talks.specs.declared.want.Want.{Want}
 use Rattle.talks.specs.declared.want.Want.TheVariants as want
 use Rattle.talks.specs.Wants.{Learnt, learnt}
 use Rattle.password_talks.specs.declared.login.PasswordPlace.{PasswordPlace}
-use Rattle.password_talks.specs.Courses.{MayWant, MayOpenSession, MightBeWanted, found}
-use Rattle.postgres_logins.specs.Courses.{MayBeWanted, MayOpenFor, MightAllBeWanted}
+use Rattle.password_talks.specs.Courses.{HasChallenged, HasShown, MayWant, MayOpenSession, MightBeWanted, found}
+use Rattle.postgres_logins.specs.Courses.{HasAuthenticated, MayBeWanted, MayOpenFor, MightAllBeWanted, WasChallenged}
 use Rattle.login_laws.specs.Done.{Done, told_in}
 use Rattle.login_laws.specs.Entitled.{WantsAsEntitled, WantedAsEntitled}
-use Rattle.login_laws.specs.Shown.{FoundAsKept, WereFoundAsKept, ShowedPassword, ShowedPasswordInMessages}
+use Rattle.postgres_logins.specs.declared.stage.Newcomer.{Newcomer}
+use Rattle.login_laws.specs.Shown.{IsChallenged, IsChallengedInMessages, WasToldDrawn, FoundAsKept, WereFoundAsKept, ShowedPassword, ShowedPasswordInMessages}
 use Rattle.login_laws.proofs.Doing.{FindsKeptText, all_on, told_on}
+use Rattle.login_laws.proofs.Inside.{first_same, rest_same}
+use Rattle.login_laws.proofs.Telling.{FewOrTold, first_two, told_of_three}
+use Rattle.login_laws.proofs.ToldInFrames.{ChallengedInFrames, same_challenge}
+use Rattle.login_laws.proofs.ToldInMessages.{ChallengedInMessages}
 
 -- ---- lists
-
-first_same : (a b : Learnt) (ls ks : List Learnt) → a ∷ ls ≡ b ∷ ks → a ≡ b
-first_same a b ls ks is = cc
-
-rest_same : (a b : Learnt) (ls ks : List Learnt) → a ∷ ls ≡ b ∷ ks → ls ≡ ks
-rest_same a b ls ks is = cc
 
 no_rest : (a : Learnt) (ls ks : List Learnt) → [] ≡ ks ++ a ∷ ls → ⊥
 no_rest a ls [] is = cc
@@ -40,6 +40,46 @@ last_done (x ∷ y ∷ past) [] last is = absurd (let more = rest_same _ _ _ _ i
 last_done {S} {X} (x ∷ past) (l ∷ earlier) last is =
     let it = last_done past earlier last (rest_same _ _ _ _ is) in
     record { earlier = x ∷ it.earlier; just_now = it.just_now; ended = ap (λ (ds : List (Done S X)). x ∷ ds) it.ended; told = it.told }
+
+-- ---- challenges
+
+-- `whole` is all that is learnt in the end, and the client was challenged by then
+module _ (place : PasswordPlace) (drawn sent said : List ℕ) (whole : List Learnt) (so : FewOrTold (ChallengedInFrames place drawn sent) whole said) where
+  told_so : (past more : List Learnt) (role text : List ℕ) → past ++ more ≡ whole → (shown : HasShown place drawn sent past role text)
+      → WasToldDrawn (IsChallenged place drawn sent role shown.mock_text text shown.label shown.middle) said
+  told_so past more role text is shown =
+      let it = told_of_three past more whole shown.later _ _ _ is shown.learnt_is so in
+      let challenged = it.challenged.4 in
+      let two = first_two whole it.learnt_first it.learnt_then _ _ _ _ _ it.learnt_is challenged.learnt_is (sym is ∙ ap (λ (l : List Learnt). l ++ more) shown.learnt_is) in
+      record {
+        first_said = it.first_said;
+        later = it.later;
+        challenged = (
+          it.challenged.3,
+          subst (λ (l : List Learnt). HasChallenged place drawn sent l it.first_said shown.middle shown.label role it.challenged.3) two
+              (same_challenge place drawn sent it.learnt_first it.first_said it.challenged.2 it.challenged.0 it.challenged.1 it.challenged.3 shown.label role shown.first shown.middle challenged shown.begun),
+        );
+        said_is = it.said_is;
+      }
+
+module _ (place : PasswordPlace) (drawn sent said : List ℕ) (whole : List Learnt) (so : FewOrTold (ChallengedInMessages place drawn sent) whole said) where
+  told_there : (past more : List Learnt) (newcomer : Newcomer) (text : List ℕ) → past ++ more ≡ whole → (shown : HasAuthenticated place drawn sent past newcomer text)
+      → WasToldDrawn (IsChallengedInMessages place drawn sent newcomer.role shown.mock_text text) said
+  told_there past more newcomer text is shown =
+      let it = told_of_three past more whole shown.later _ _ _ is shown.learnt_is so in
+      let challenged = it.challenged.3 in
+      let two = first_two whole it.learnt_first it.learnt_then _ _ _ _ _ it.learnt_is challenged.offered.learnt_is (sym is ∙ ap (λ (l : List Learnt). l ++ more) shown.learnt_is) in
+      record {
+        first_said = it.first_said;
+        later = it.later;
+        challenged = (
+          it.challenged.0,
+          it.challenged.1,
+          it.challenged.2,
+          subst (λ (l : List Learnt). WasChallenged place drawn sent l it.first_said it.challenged.0 it.challenged.1 it.challenged.2) two challenged,
+        );
+        said_is = it.said_is;
+      }
 
 module _ {S X : Type 0} (state : S → StoreState) where
   -- ---- look-ups
@@ -79,60 +119,69 @@ module _ {S X : Type 0} (state : S → StoreState) where
 
   -- ---- in frames
 
-  module _ (place : PasswordPlace) (drawn sent : List ℕ) where
-    showed : (past : List (Done S X)) (role : TheName) → AllByRecursion (FindsKeptText state) past → MayOpenSession place drawn sent (told_in past) role → ShowedPassword state place drawn sent past role
-    showed past role finds may = record {
+  -- `whole` is all that is learnt in the end, and the client was challenged by then
+  module _ (place : PasswordPlace) (drawn sent said : List ℕ) (whole : List Learnt) (so : FewOrTold (ChallengedInFrames place drawn sent) whole said) where
+    showed : (past : List (Done S X)) (more : List Learnt) (role : TheName) → told_in past ++ more ≡ whole → AllByRecursion (FindsKeptText state) past → MayOpenSession place drawn sent (told_in past) role
+        → ShowedPassword state place drawn sent said past role
+    showed past more role is finds may = record {
       text = may.text;
       shown = may.has_shown;
       found = were_found place role may.has_shown.mock_text may.text past may.has_shown.later may.earlier finds may.has_shown.learnt_is may.found_now;
+      told = told_so place drawn sent said whole so (told_in past) more role may.text is may.has_shown;
     }
 
-    as_entitled : (past : List (Done S X)) (w : Want) → AllByRecursion (FindsKeptText state) past → MayWant place drawn sent (told_in past) w → WantsAsEntitled (ShowedPassword state place drawn sent) past w
-    as_entitled past (want.Open session role entry) finds may = showed past role finds may
-    as_entitled past want.Message finds may = tt
-    as_entitled past (want.Event e) finds may = tt
-    as_entitled past (want.Standing session) finds may = tt
-    as_entitled past (want.Description session text) finds may = tt
-    as_entitled past (want.Verifier table role) finds may = tt
-    as_entitled past (want.End late) finds may = tt
-    as_entitled past want.OutOfMemory finds may = tt
+    pub as_entitled : (past : List (Done S X)) (more : List Learnt) (w : Want) → told_in past ++ more ≡ whole → AllByRecursion (FindsKeptText state) past → MayWant place drawn sent (told_in past) w → WantsAsEntitled (ShowedPassword state place drawn sent said) past w
+    as_entitled past more (want.Open session role entry) is finds may = showed past more role is finds may
+    as_entitled past more want.Message is finds may = tt
+    as_entitled past more (want.Event e) is finds may = tt
+    as_entitled past more (want.Standing session) is finds may = tt
+    as_entitled past more (want.Description session text) is finds may = tt
+    as_entitled past more (want.Verifier table role) is finds may = tt
+    as_entitled past more (want.End late) is finds may = tt
+    as_entitled past more want.OutOfMemory is finds may = tt
 
-    pub all_entitled : (past xs : List (Done S X)) → AllByRecursion (FindsKeptText state) past → AllByRecursion (FindsKeptText state) xs → MightBeWanted place drawn sent (told_in past) (told_in xs)
-        → WantedAsEntitled (ShowedPassword state place drawn sent) past xs
-    all_entitled past [] before finds might = tt
-    all_entitled past (x ∷ xs) before finds might = (
-      as_entitled past x.exchange.want before might.0,
-      all_entitled (past ++ x ∷ []) xs (all_on (FindsKeptText state) past (x ∷ []) before (finds.0, tt)) finds.1
+    pub all_entitled : (past xs : List (Done S X)) → told_in past ++ told_in xs ≡ whole → AllByRecursion (FindsKeptText state) past → AllByRecursion (FindsKeptText state) xs → MightBeWanted place drawn sent (told_in past) (told_in xs)
+        → WantedAsEntitled (ShowedPassword state place drawn sent said) past xs
+    all_entitled past [] is before finds might = tt
+    all_entitled past (x ∷ xs) is before finds might = (
+      as_entitled past (told_in (x ∷ xs)) x.exchange.want is before might.0,
+      all_entitled (past ++ x ∷ []) xs (ap (λ (l : List Learnt). l ++ told_in xs) (told_on past (x ∷ [])) ∙ (append_assoc (told_in past) (told_in (x ∷ [])) (told_in xs) ∙ is))
+          (all_on (FindsKeptText state) past (x ∷ []) before (finds.0, tt)) finds.1
           (subst (λ (l : List Learnt). MightBeWanted place drawn sent l (told_in xs)) (sym (told_on past (x ∷ []))) might.1),
     )
 
-    -- ---- in PostgreSQL's messages
+  -- ---- in PostgreSQL's messages
 
-    showed_there : (past : List (Done S X)) (role : TheName) → AllByRecursion (FindsKeptText state) past → MayOpenFor place drawn sent (told_in past) role → ShowedPasswordInMessages state place drawn sent past role
-    showed_there past role finds may = record {
-      newcomer = may.newcomer;
-      is_for = may.is_for;
-      text = may.text;
-      shown = may.has_shown;
-      found = were_found place role may.has_shown.mock_text may.text past may.has_shown.later may.earlier finds
-          (subst (λ (r : TheName). told_in past ≡ found place.table place.mock may.has_shown.mock_text ∷ found place.table r may.text ∷ found place.table r may.text ∷ may.has_shown.later) may.is_for may.has_shown.learnt_is) may.found_now;
-    }
+  module _ (place : PasswordPlace) (drawn sent said : List ℕ) (whole : List Learnt) (so : FewOrTold (ChallengedInMessages place drawn sent) whole said) where
+    showed_there : (past : List (Done S X)) (more : List Learnt) (role : TheName) → told_in past ++ more ≡ whole → AllByRecursion (FindsKeptText state) past → MayOpenFor place drawn sent (told_in past) role
+        → ShowedPasswordInMessages state place drawn sent said past role
+    showed_there past more role is finds may =
+        record {
+          newcomer = may.newcomer;
+          is_for = may.is_for;
+          text = may.text;
+          shown = may.has_shown;
+          found = were_found place role may.has_shown.mock_text may.text past may.has_shown.later may.earlier finds
+              (subst (λ (r : TheName). told_in past ≡ found place.table place.mock may.has_shown.mock_text ∷ found place.table r may.text ∷ found place.table r may.text ∷ may.has_shown.later) may.is_for may.has_shown.learnt_is) may.found_now;
+          told = told_there place drawn sent said whole so (told_in past) more may.newcomer may.text is may.has_shown;
+        }
 
-    as_entitled_there : (past : List (Done S X)) (w : Want) → AllByRecursion (FindsKeptText state) past → MayBeWanted place drawn sent (told_in past) w → WantsAsEntitled (ShowedPasswordInMessages state place drawn sent) past w
-    as_entitled_there past (want.Open session role entry) finds may = showed_there past role finds may
-    as_entitled_there past want.Message finds may = tt
-    as_entitled_there past (want.Event e) finds may = tt
-    as_entitled_there past (want.Standing session) finds may = tt
-    as_entitled_there past (want.Description session text) finds may = tt
-    as_entitled_there past (want.Verifier table role) finds may = tt
-    as_entitled_there past (want.End late) finds may = tt
-    as_entitled_there past want.OutOfMemory finds may = tt
+    pub as_entitled_there : (past : List (Done S X)) (more : List Learnt) (w : Want) → told_in past ++ more ≡ whole → AllByRecursion (FindsKeptText state) past → MayBeWanted place drawn sent (told_in past) w → WantsAsEntitled (ShowedPasswordInMessages state place drawn sent said) past w
+    as_entitled_there past more (want.Open session role entry) is finds may = showed_there past more role is finds may
+    as_entitled_there past more want.Message is finds may = tt
+    as_entitled_there past more (want.Event e) is finds may = tt
+    as_entitled_there past more (want.Standing session) is finds may = tt
+    as_entitled_there past more (want.Description session text) is finds may = tt
+    as_entitled_there past more (want.Verifier table role) is finds may = tt
+    as_entitled_there past more (want.End late) is finds may = tt
+    as_entitled_there past more want.OutOfMemory is finds may = tt
 
-    pub all_entitled_there : (past xs : List (Done S X)) → AllByRecursion (FindsKeptText state) past → AllByRecursion (FindsKeptText state) xs → MightAllBeWanted place drawn sent (told_in past) (told_in xs)
-        → WantedAsEntitled (ShowedPasswordInMessages state place drawn sent) past xs
-    all_entitled_there past [] before finds might = tt
-    all_entitled_there past (x ∷ xs) before finds might = (
-      as_entitled_there past x.exchange.want before might.0,
-      all_entitled_there (past ++ x ∷ []) xs (all_on (FindsKeptText state) past (x ∷ []) before (finds.0, tt)) finds.1
+    pub all_entitled_there : (past xs : List (Done S X)) → told_in past ++ told_in xs ≡ whole → AllByRecursion (FindsKeptText state) past → AllByRecursion (FindsKeptText state) xs → MightAllBeWanted place drawn sent (told_in past) (told_in xs)
+        → WantedAsEntitled (ShowedPasswordInMessages state place drawn sent said) past xs
+    all_entitled_there past [] is before finds might = tt
+    all_entitled_there past (x ∷ xs) is before finds might = (
+      as_entitled_there past (told_in (x ∷ xs)) x.exchange.want is before might.0,
+      all_entitled_there (past ++ x ∷ []) xs (ap (λ (l : List Learnt). l ++ told_in xs) (told_on past (x ∷ [])) ∙ (append_assoc (told_in past) (told_in (x ∷ [])) (told_in xs) ∙ is))
+          (all_on (FindsKeptText state) past (x ∷ []) before (finds.0, tt)) finds.1
           (subst (λ (l : List Learnt). MightAllBeWanted place drawn sent l (told_in xs)) (sym (told_on past (x ∷ []))) might.1),
     )

@@ -10,10 +10,12 @@ use Rattle.talks.specs.declared.want.Want.{Want}
 use Rattle.talks.specs.declared.want.Want.TheVariants as want
 use Rattle.talks.specs.declared.talk.Talk.{Ghosts as TalkGhosts}
 use Rattle.talks.specs.declared.clients.ServedClients.{Ghosts as ClientsGhosts}
-use Rattle.talks.specs.Wants.{OpensSession}
+use Rattle.talks.specs.Wants.{OpensSession, TellsOpened}
 use Rattle.talks.specs.Turns.{Turn, TakesTurns, own_learnt}
+use Rattle.server.specs.declared.server.Server.{Server}
 use Rattle.served_machine.specs.declared.machine.ServedMachine.{ServedMachine}
 use Rattle.served_machine.specs.Machines.{machine_of}
+use Rattle.served_machine.specs.Admitted.{WantsAdmitted}
 use Rattle.served_machine.specs.Sessions.{HasOwnSession, IsSoundServer}
 use Rattle.login_laws.specs.Done.{Done, WasDone, done_for, told_in, all_done}
 
@@ -32,14 +34,31 @@ pub record IsAnswerOf {S X : Type 0} (state : S → StoreState) (x : Done S X) (
   pub number_is : number ≡ number_in x.exchange.client own
   pub is_open : HasOwnSession state x.server x.exchange.client own login
 
+-- this session of a client was open where the server stood before each of these things was done
+abbrev pub IsOpenThroughout : {S X : Type 0} → (S → StoreState) → List (Done S X) → (c n : ℕ) → TheName → Type 0
+IsOpenThroughout state xs c n login = AllByRecursion (λ x. HasOwnSession state x.server c n login) xs
+
+-- it was open at first, and stayed so
+abbrev pub StayedOpen : {S X : Type 0} → (S → StoreState) → Server S X → List (Done S X) → (c n : ℕ) → TheName → Type 0
+StayedOpen state first xs c n login = HasOwnSession state first c n login × IsOpenThroughout state xs c n login
+
+-- this opened a session of its client: that was wanted, of whom its place admitted where the server stood, and is answered so; its number had no session
+-- before, for whatever role, and this one stayed open since
+pub record IsOpening {S X : Type 0} (state : S → StoreState) (x : Done S X) (later : List (Done S X)) (n : ℕ) (login : TheName) : Type 0 where
+  pub opens : OpensSession x.exchange.want n login
+  pub let_in : WantsAdmitted state x.server x.exchange.want n login
+  pub answered : TellsOpened x.exchange.reply
+  pub was_new : (any : TheName) → HasOwnSession state x.server x.exchange.client n any → ⊥
+  pub stays : IsOpenThroughout state later x.exchange.client n login
+
 -- one of these things was done for this client, and opened this session of it
-pub record WasOpenedFor {S X : Type 0} (xs : List (Done S X)) (c n : ℕ) (login : TheName) : Type 0 where
+pub record WasOpenedFor {S X : Type 0} (state : S → StoreState) (xs : List (Done S X)) (c n : ℕ) (login : TheName) : Type 0 where
   pub past : List (Done S X)
   pub opening : Done S X
   pub later : List (Done S X)
   pub is_done : xs ≡ past ++ opening ∷ later
   pub client : opening.exchange.client ≡ c
-  pub opens : OpensSession opening.exchange.want n login
+  pub opened : IsOpening state opening later n login
 
 module _ (S X T C : Type 0) (Reads : ReadingRelation) (state : S → StoreState) (t : TalkGhosts T) (k : ClientsGhosts C T) where
   -- each thing was done by the server where it stood
@@ -52,9 +71,10 @@ module _ (S X T C : Type 0) (Reads : ReadingRelation) (state : S → StoreState)
   clients_learn_their_own = (old : ServedMachine S X) (before : C) (turns : List Turn) (new : ServedMachine S X) (after : C) (took : TakesTurns (machine_of Reads state) t k old before turns new after) (c : ℕ) →
       own_learnt c turns ≡ told_in (done_for c (all_done Reads state t k old before turns new after took))
 
-  -- an answer of a session that is number m of client d is told to client d, for which the session was opened before, in these turns or before them
+  -- an answer of a session that is number m of client d is told to client d; the session has been open since before these turns, or was opened in them
+  -- for this client
   abbrev pub answers_are_of_own_sessions : Type 0
   answers_are_of_own_sessions = (old : ServedMachine S X) (before : C) (turns : List Turn) (new : ServedMachine S X) (after : C) (took : TakesTurns (machine_of Reads state) t k old before turns new after) →
       IsSoundServer state old.server → (past : List (Done S X)) (x : Done S X) (later : List (Done S X)) → all_done Reads state t k old before turns new after took ≡ past ++ x ∷ later →
       (d m : ℕ) (login : TheName) → m < 2 ^ 32 → IsAnswerOf state x (number_in d m) login →
-      (x.exchange.client ≡ d) × (HasOwnSession state old.server d m login ⊎ WasOpenedFor past d m login)
+      (x.exchange.client ≡ d) × (StayedOpen state old.server past d m login ⊎ WasOpenedFor state past d m login)

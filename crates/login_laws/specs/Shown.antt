@@ -7,13 +7,15 @@ use Rattle.kept_verifiers.specs.Verifiers.{kept_text}
 use Rattle.server.specs.Standing.{Represents}
 use Rattle.talks.specs.declared.want.Want.TheVariants as want
 use Rattle.talks.specs.declared.want.Reply.TheVariants as reply
+use Rattle.talks.specs.Wants.{Learnt}
+use Rattle.scram.specs.Exchanges.{TheExchange}
 use Rattle.doors.specs.declared.door.Door.{Door}
 use Rattle.doors.specs.Doors.{admits}
 use Rattle.served_machine.specs.Sessions.{IsSoundServer}
 use Rattle.password_talks.specs.declared.login.PasswordPlace.{PasswordPlace}
-use Rattle.password_talks.specs.Courses.{HasShown}
+use Rattle.password_talks.specs.Courses.{HasChallenged, HasShown, found}
 use Rattle.postgres_logins.specs.declared.stage.Newcomer.{Newcomer}
-use Rattle.postgres_logins.specs.Courses.{HasAuthenticated}
+use Rattle.postgres_logins.specs.Courses.{HasAuthenticated, WasChallenged}
 use Rattle.login_laws.specs.Done.{Done, told_in}
 
 -- ---- look-ups
@@ -43,22 +45,46 @@ pub record WereFoundAsKept {S X : Type 0} (state : S → StoreState) (place : Pa
 
 -- ---- who has shown a password
 
--- so much has been done for a client, whose bytes showed the password of the verifier that was found for the role
-pub record ShowedPassword {S X : Type 0} (state : S → StoreState) (place : PasswordPlace) (drawn sent : List ℕ) (past : List (Done S X)) (role : TheName) : Type 0 where
+-- first a client was challenged, so, and then the rest was said to it
+pub record WasToldDrawn (IsChallenged : List ℕ → Type 0) (said : List ℕ) : Type 0 where
+  pub first_said : List ℕ
+  pub later : List ℕ
+  pub challenged : IsChallenged first_said
+  pub said_is : said ≡ first_said ++ later
+
+-- what was looked up for a client before it was challenged
+abbrev pub found_first : PasswordPlace → (role mock_text text : List ℕ) → List Learnt
+found_first place role mock_text text = found place.table place.mock mock_text ∷ found place.table role text ∷ []
+
+-- the first frame of a client began an exchange under this label, with what was drawn for it, and this is left of its bytes; the challenge is all that was
+-- said to it
+abbrev pub IsChallenged : PasswordPlace → (drawn sent role mock_text text : List ℕ) (label : ℕ) (rest said : List ℕ) → Type 0
+IsChallenged place drawn sent role mock_text text label rest said = (x : TheExchange) × HasChallenged place drawn sent (found_first place role mock_text text) said rest label role x
+
+-- the same in PostgreSQL's messages, behind what was said to the StartupMessage and before it
+abbrev pub IsChallengedInMessages : PasswordPlace → (drawn sent role mock_text text said : List ℕ) → Type 0
+IsChallengedInMessages place drawn sent role mock_text text said =
+    (rest : List ℕ) × (n : Newcomer) × (x : TheExchange) × WasChallenged place drawn sent (found_first place role mock_text text) said rest n x
+
+-- so much has been done for a client, whose bytes showed the password of the verifier that was found for the role. Its last message answers the challenge
+-- that was said to it first
+pub record ShowedPassword {S X : Type 0} (state : S → StoreState) (place : PasswordPlace) (drawn sent said : List ℕ) (past : List (Done S X)) (role : TheName) : Type 0 where
   pub text : List ℕ
   pub shown : HasShown place drawn sent (told_in past) role text
   pub found : WereFoundAsKept state place past role shown.mock_text text
+  pub told : WasToldDrawn (IsChallenged place drawn sent role shown.mock_text text shown.label shown.middle) said
 
 -- the same of a client of PostgreSQL's protocol, whose StartupMessage named the role
-pub record ShowedPasswordInMessages {S X : Type 0} (state : S → StoreState) (place : PasswordPlace) (drawn sent : List ℕ) (past : List (Done S X)) (role : TheName) : Type 0 where
+pub record ShowedPasswordInMessages {S X : Type 0} (state : S → StoreState) (place : PasswordPlace) (drawn sent said : List ℕ) (past : List (Done S X)) (role : TheName) : Type 0 where
   pub newcomer : Newcomer
   pub is_for : newcomer.role ≡ role
   pub text : List ℕ
   pub shown : HasAuthenticated place drawn sent (told_in past) newcomer text
   pub found : WereFoundAsKept state place past role shown.mock_text text
+  pub told : WasToldDrawn (IsChallengedInMessages place drawn sent newcomer.role shown.mock_text text) said
 
 -- ---- at a door
 
--- one may come in there as the role of this name, whatever was drawn, sent and done
-abbrev pub MayComeIn : {S X : Type 0} → Door → (drawn sent : List ℕ) → List (Done S X) → TheName → Type 0
-MayComeIn door drawn sent past role = admits door role ≡ true
+-- one may come in there as the role of this name, whatever was drawn, sent, said and done
+abbrev pub MayComeIn : {S X : Type 0} → Door → (drawn sent said : List ℕ) → List (Done S X) → TheName → Type 0
+MayComeIn door drawn sent said past role = admits door role ≡ true

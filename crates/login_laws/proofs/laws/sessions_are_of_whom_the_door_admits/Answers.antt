@@ -1,8 +1,7 @@
-use Rattle.std.proofs.Common.{[], refl}
-use Rattle.doors.proofs.Hearing.{admitted_heard}
+use Rattle.std.proofs.Common.{[]}
 use Rattle.login_laws.specs.Shown.{MayComeIn}
 use Rattle.login_laws.proofs.Entitling.{wanted_so, opened_as, answered_so}
-use Rattle.login_laws.proofs.ComingIn.{all_come_in}
+use Rattle.login_laws.proofs.Placed.{door_entitled}
 use Rattle.login_laws.proofs.laws.sessions_are_of_whom_the_door_admits.Goals as goal
 
 pub returns-clause-wanted : goal.returns-clause-wanted
@@ -11,7 +10,7 @@ returns-clause-wanted g c =
     wanted_so g.X.EventHandler.Reads g.S.Map.state _ g.C.ServedClients (λ talk. talk.door) (λ talk. []) MayComeIn
     (λ t bytes more n is. met.front_more t.talk bytes more n is)
     (λ t bytes more is. met.bad_more t.talk bytes more is)
-    (λ talk last sent said rest xs starts heard finds. all_come_in talk.door [] sent [] xs (admitted_heard g.T.Talk _ (λ t. t.door) (λ t. t.talk) (λ t. refl) (λ t bytes. refl) (λ t u message said it. it) (λ t u said it. it) (λ t u r said it. it) heard))
+    (λ talk last sent said rest xs starts heard finds. door_entitled g.T.Talk talk last sent said rest xs heard)
 
 pub returns-clause-opened : goal.returns-clause-opened
 returns-clause-opened g c =
@@ -19,7 +18,7 @@ returns-clause-opened g c =
     opened_as g.X.EventHandler.Reads g.S.Map.state _ g.C.ServedClients (λ talk. talk.door) (λ talk. []) MayComeIn
     (λ t bytes more n is. met.front_more t.talk bytes more n is)
     (λ t bytes more is. met.bad_more t.talk bytes more is)
-    (λ talk last sent said rest xs starts heard finds. all_come_in talk.door [] sent [] xs (admitted_heard g.T.Talk _ (λ t. t.door) (λ t. t.talk) (λ t. refl) (λ t bytes. refl) (λ t u message said it. it) (λ t u said it. it) (λ t u r said it. it) heard))
+    (λ talk last sent said rest xs starts heard finds. door_entitled g.T.Talk talk last sent said rest xs heard)
 
 pub returns-clause-answered : goal.returns-clause-answered
 returns-clause-answered g c =
@@ -27,4 +26,4 @@ returns-clause-answered g c =
     answered_so g.X.EventHandler.Reads g.S.Map.state _ g.C.ServedClients (λ talk. talk.door) (λ talk. []) MayComeIn
     (λ t bytes more n is. met.front_more t.talk bytes more n is)
     (λ t bytes more is. met.bad_more t.talk bytes more is)
-    (λ talk last sent said rest xs starts heard finds. all_come_in talk.door [] sent [] xs (admitted_heard g.T.Talk _ (λ t. t.door) (λ t. t.talk) (λ t. refl) (λ t bytes. refl) (λ t u message said it. it) (λ t u said it. it) (λ t u r said it. it) heard))
+    (λ talk last sent said rest xs starts heard finds. door_entitled g.T.Talk talk last sent said rest xs heard)
