@@ -9,4 +9,7 @@ pub mod OneSaslLogin
 pub mod LoginsOnce
 pub mod TalkGhosts
 pub mod Begun
+pub mod PlacesOnce
+pub mod FramedOnce
+pub mod PlaceTalks
 pub mod ToldBeginnings

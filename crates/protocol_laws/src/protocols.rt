@@ -1,12 +1,16 @@
 //! Laws of protocols whose conversations go alike.
 
+ghost use Rattle.std.specs.Prelude.{◌≡◌};
 ghost use Rattle.password_talks.specs.declared.password_talk.PasswordTalk.{PasswordTalk as ThePasswordTalk};
 ghost use Rattle.postgres_logins.specs.declared.postgres_login_talk.PostgresLoginTalk.{PostgresLoginTalk as TheLoginTalk};
 ghost use Rattle.postgres_talks.specs.declared.postgres_talk.PostgresTalk.{PostgresTalk as TheTalk};
 ghost use Rattle.served_tenants.specs.Saying.{SpeaksOnce};
 ghost use Rattle.protocol_laws.specs.Alike.{AreLoginTalksAlike, ArePasswordTalksAlike, DrewTheSame, DrewTheSameThere, HaveOneProcess, StandAtOneMoment};
+ghost use Rattle.protocol_laws.specs.Places.{AreOfOneKind};
 
+use doors::entry_talk::EntryTalk;
 use password_talks::password_talk::PasswordTalk;
+use placed_talks::placed_talk::PlacedTalk;
 use postgres_logins::postgres_login_talk::PostgresLoginTalk;
 use postgres_talks::postgres_talk::PostgresTalk;
 use served_tenants::saying::Likeness;
@@ -37,4 +41,24 @@ pub fn postgres_logins_change_nothing_of_that<T: Talk, A: Likeness<T>>()
     ensures once { SpeaksOnce T.Talk A.Alike → SpeaksOnce ⟦<PostgresLoginTalk<T> as Talk>⟧ (AreLoginTalksAlike A.Alike) }
     ensures begin { (t u : TheLoginTalk T) → ⟦<PostgresLoginTalk<T> as Talk>⟧.starts t → ⟦<PostgresLoginTalk<T> as Talk>⟧.starts u → DrewTheSameThere t u
         → A.Alike t.talk u.talk → AreLoginTalksAlike A.Alike t u }
+{}
+
+/// Where conversations of a protocol go alike, they do at places that admit no superuser, and at places that do.
+pub fn entries_change_nothing_of_that<T: Talk, A: Likeness<T>>()
+    ensures { SpeaksOnce T.Talk A.Alike → SpeaksOnce ⟦<EntryTalk<T> as Talk>⟧ (λ t u. (t.no_superuser ≡ u.no_superuser) × A.Alike t.talk u.talk) }
+{}
+
+/// Where conversations of each kind go alike, those of one kind do at one of several places.
+pub fn kinds_change_nothing_of_that<
+    F: Talk,
+    P: Talk,
+    V: Talk,
+    W: Talk,
+    A: Likeness<F>,
+    B: Likeness<P>,
+    C: Likeness<V>,
+    D: Likeness<W>,
+>()
+    ensures { SpeaksOnce F.Talk A.Alike → SpeaksOnce P.Talk B.Alike → SpeaksOnce V.Talk C.Alike → SpeaksOnce W.Talk D.Alike
+        → SpeaksOnce ⟦<PlacedTalk<F, P, V, W> as Talk>⟧ (AreOfOneKind A.Alike B.Alike C.Alike D.Alike) }
 {}

@@ -29,7 +29,7 @@ use Rattle.talks.specs.declared.want.Reply.{Reply}
 use Rattle.talks.specs.declared.want.Reply.TheVariants as reply
 use Rattle.talks.specs.Turns.{Exchange}
 use Rattle.served_tenants.specs.Exchanges.{OpensSessionAt, has_stopped, turns_away, lacks_memory, takes}
-use Rattle.served_tenants.specs.ServedTenants.{tenant_of, at_exception, at_refusal, MayPart, by_event, for_memory, by_look_up, TellAlike, over_here, over_there, told_alike, told_apart, untold_here, untold_there, failed_here, failed_there}
+use Rattle.served_tenants.specs.ServedTenants.{tenant_of, at_exception, at_refusal, MayPart, by_event, for_memory, by_look_up, in_look_up_session, TellAlike, over_here, over_there, told_alike, told_apart, untold_here, untold_there, failed_here, failed_there}
 use Rattle.served_tenants.specs.SaidTenants.{NeverParts}
 use Rattle.served_tenants.specs.ServedApart.{ReadsTheSelect, standing_with, opening, asking, no_superuser, asks_in, anns_client}
 use Rattle.served_lives.specs.ServedLives.{none_served, served, PartWhereStopped, one_commit_more, one_commit_more_there, device_had_failed, device_had_failed_there, OthersKeepHidden, WantTheSame, ServedLivesTellAlike}
@@ -272,7 +272,8 @@ module _ (w v : At) (at_w : w.standing.machine ≡ opened_by_ann first) (at_v : 
   select_parts_never : (next later : At) → MayPart ReadsTheSelect anns_client (λ c. c) (λ c. c) w next v later 0 (want.Event (event.Statement 1 [])) here_asked.reply there_asked.reply → ⊥
   select_parts_never next later (for_memory (inl never) differ) = never
   select_parts_never next later (for_memory (inr never) differ) = never
-  select_parts_never next later (by_look_up table role is cause) = asking_is_no_look_up (event.Statement 1 []) table role is
+  select_parts_never next later (by_look_up table role is cause differ) = asking_is_no_look_up (event.Statement 1 []) table role is
+  select_parts_never next later (in_look_up_session table role is runs runs_there io io_there has) = asking_is_no_look_up (event.Statement 1 []) table role is
   select_parts_never next later (by_event e p q of is is_there (at_refusal (inl in_place) none)) = none_in_place p w.counts next.counts (not_refused p (answer_to (opened_by_ann first) (asking 0)) is refl) in_place
   select_parts_never next later (by_event e p q of is is_there (at_refusal (inr in_place) none)) = none_in_place q v.counts later.counts (not_refused q (answer_to (opened_by_ann with_her_other) (asking 0)) is_there refl) in_place
   select_parts_never next later (by_event e p q of is is_there (at_exception read reads exception none)) =
@@ -295,7 +296,8 @@ module _ (w v : At) (at_w : w.standing.machine ≡ opened_by_ann first) (at_v : 
 opening_parts_never : (next later : At) → MayPart ReadsTheSelect anns_client (λ c. c) (λ c. c) (standing_with m) next (standing_with k) later 0 (want.Open 1 (codes "ann") no_superuser) (reply.Answer was_opened) (reply.Answer was_opened) → ⊥
 opening_parts_never next later (for_memory (inl lacks) differ) = differ refl
 opening_parts_never next later (for_memory (inr lacks) differ) = differ refl
-opening_parts_never next later (by_look_up table role is cause) = open_is_no_look_up 1 (codes "ann") table role is
+opening_parts_never next later (by_look_up table role is cause differ) = open_is_no_look_up 1 (codes "ann") table role is
+opening_parts_never next later (in_look_up_session table role is runs runs_there io io_there has) = open_is_no_look_up 1 (codes "ann") table role is
 opening_parts_never next later (by_event e p q of is is_there (at_refusal (inl in_place) none)) = none_in_place p (standing_with m).counts next.counts (not_refused p was_opened is refl) in_place
 opening_parts_never next later (by_event e p q of is is_there (at_refusal (inr in_place) none)) = none_in_place q (standing_with k).counts later.counts (not_refused q was_opened is_there refl) in_place
 opening_parts_never next later (by_event e p q of is is_there (at_exception read reads exception none)) =

@@ -1,6 +1,7 @@
 pub mod HeardAlike
 pub mod Making
 pub mod Renumbering
+pub mod LookingUp
 pub mod Parting
 pub mod Telling
 pub mod SaidAlike

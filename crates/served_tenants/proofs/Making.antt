@@ -1,5 +1,5 @@
 -- Turns as exchanges.
-use Rattle.std.proofs.Common.{◌≡◌, ◌∙◌, ℕ, List, [], ◌∷◌, ◌++◌, Option, refl, sym, ap, subst}
+use Rattle.std.proofs.Common.{◌≡◌, ◌∙◌, ℕ, Bool, true, false, List, [], ◌∷◌, ◌++◌, Option, refl, sym, ap, subst}
 use Rattle.sql_types.specs.declared.answer.Answer.{Answer}
 use Rattle.sql_types.specs.declared.event.Event.{Event}
 use Rattle.sql_types.specs.declared.event.Event.TheVariants as event
@@ -10,6 +10,8 @@ use Rattle.abstract_database.specs.Runs.{TheText, ReadingRelation, Stops, At, Ha
 use Rattle.server.specs.declared.server.Server.{Server}
 use Rattle.server.specs.Standing.{event_of, Represents}
 use Rattle.server.specs.Runs.{Steps as ServerSteps}
+use Rattle.server.specs.LookUps.{Found}
+use Rattle.server.specs.LookUps as look_up
 use Rattle.talks.specs.declared.want.Want.{Want}
 use Rattle.talks.specs.declared.want.Want.TheVariants as want
 use Rattle.talks.specs.declared.want.Reply.{Reply}
@@ -20,10 +22,11 @@ use Rattle.talks.specs.declared.talk.Talk.{Ghosts as TalkGhosts}
 use Rattle.talks.specs.declared.clients.ServedClients.{Ghosts as ClientsGhosts}
 use Rattle.talks.specs.Turns.{Exchange, Turn, steps, asks, waits, leaves, ends, Steps, TakesTurn, TakesTurns}
 use Rattle.served_machine.specs.declared.machine.ServedMachine.{ServedMachine}
-use Rattle.served_machine.specs.Served.{TakesEvent, OpensFor, TakesStep, TellsClient}
+use Rattle.served_machine.specs.Served.{TakesEvent, OpensFor, TakesStep, LooksUpKept, TellsClient}
 use Rattle.served_machine.specs.Served as opening
 use Rattle.served_machine.specs.Machines.{machine_of}
 use Rattle.served_tenants.specs.Exchanges.{unsaid, CarriesOutAt, has_stopped, turns_away, lacks_memory, takes, Replies, Exchanges, exchanges_in, exchanges_of, turns_are_exchanges}
+use Rattle.served_tenants.proofs.LookingUp.{stops_where_it_fails}
 
 -- without what a stop leaves
 forget : (Reads : ReadingRelation) (Leave : Stops) (w next : At) (e : MachineEvent TheText) (a : Answer) → Happens Reads Leave w e a next → Happens Reads unsaid w e a next
@@ -96,14 +99,42 @@ module _ {S X : Type 0} (Reads : ReadingRelation) (state : S → StoreState) whe
   step c (want.End late) r old new w made sound here = absurd made
   step c want.OutOfMemory r old new w made sound here = absurd made
 
+  looked : (c : ℕ) (table role : TheName) (f : Found) (old new : Server S X) (w : At) → LooksUpKept Reads state table role f old new → (state old.store).sound → Represents state old w → (b : Bool) → old.stopped ≡ b →
+      LeadsOn new w c (want.Verifier table role) (reply.Verifier f)
+  looked c table role f old new w tells sound here true was =
+      stays old new w c (want.Verifier table role) (reply.Verifier f) (tells.stopped was).1 sound here (
+        f,
+        refl,
+        look_up.as_it_was refl,
+        tells.finds sound w here,
+        record {
+          fails = λ io. here.stopped ∙ was;
+          stopped = λ stops. ((tells.stopped was).0, refl);
+        },
+      )
+  looked c table role f old new w tells sound here false runs =
+      let led = tells.leaves sound w here in (
+        led.0,
+        led.1,
+        tells.history.sound sound,
+        (
+          f,
+          refl,
+          led.2,
+          tells.finds sound w here,
+          record {
+            fails = λ io. led.1.stopped ∙ stops_where_it_fails Reads state role f old new tells.looks sound w here io;
+            stopped = λ stops. let contrary : true ≡ false = sym stops ∙ here.stopped ∙ runs in cc;
+          },
+        ),
+      )
+
   question : (c : ℕ) (x : Want) (r : Reply) (old new : Server S X) (w : At) → TellsClient Reads state c x r old new → (state old.store).sound → Represents state old w → LeadsOn new w c x r
   question c (want.Standing n) (reply.Standing b) old new w tells sound here =
       stays old new w c (want.Standing n) (reply.Standing b) tells.1 sound here (ap (λ (o : Option BlockStanding). reply.Standing o) (tells.0 w here), refl)
   question c (want.Description n text) (reply.Description d) old new w tells sound here =
       stays old new w c (want.Description n text) (reply.Description d) tells.1 sound here (d, refl, tells.0.1 w here, refl)
-  question c (want.Verifier table role) (reply.Verifier f) old new w tells sound here =
-      let led = tells.leaves sound w here in
-      (led.0, led.1, tells.history.sound sound, (f, refl, led.2, tells.finds sound w here))
+  question c (want.Verifier table role) (reply.Verifier f) old new w tells sound here = looked c table role f old new w tells sound here old.stopped refl
   question c (want.Standing n) (reply.Answer a) old new w tells sound here = absurd tells
   question c (want.Standing n) (reply.Description x) old new w tells sound here = absurd tells
   question c (want.Standing n) (reply.Verifier v) old new w tells sound here = absurd tells

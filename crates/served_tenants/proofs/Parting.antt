@@ -18,6 +18,7 @@ use Rattle.abstract_database.specs.Runs.{TheText, ReadingRelation, MayRead, At}
 use Rattle.abstract_database.proofs.ListLemmas.{bytes_same, same_bytes}
 use Rattle.database_laws.specs.HiddenRuns.{SameApparentRowsForPairs, AreSound, AreOneRefusal}
 use Rattle.database_laws.specs.Runs.{ReadsOnce}
+use Rattle.database_laws.specs.Told.{IsAlikeTo}
 use Rattle.database_laws.specs.ToldStores.{OpensAsOwn}
 use Rattle.database_laws.proofs.ToldRuns.{for_one}
 use Rattle.database_laws.proofs.RefusedAlike.{one_code, one_refusal_or_not, needs_no_store}
@@ -25,7 +26,7 @@ use Rattle.database_laws.proofs.ToldStores.{Did, moves, stays, did, Passed, pass
 use Rattle.database_laws.proofs.ToldStores.{fails as did_fail}
 use Rattle.client_laws.specs.Renumbered.{IsOneToOne, renumbered_machine, renumbered_at}
 use Rattle.server.specs.Standing.{event_of}
-use Rattle.server.specs.LookUps.{Found, IsLeftByLookUp, as_it_was, stopped_within}
+use Rattle.server.specs.LookUps.{Found, look_up_client, IsLeftByLookUp, as_it_was, stopped_within}
 use Rattle.talks.specs.declared.want.Want.{Want}
 use Rattle.talks.specs.declared.want.Want.TheVariants as want
 use Rattle.talks.specs.declared.want.Reply.{Reply}
@@ -35,9 +36,10 @@ use Rattle.served_machine.specs.Entries.{is_way_of, admits}
 use Rattle.served_machine.specs.RowsApart.{AgreeButForRows}
 use Rattle.served_machine.specs.Served.{standing_of}
 use Rattle.served_machine.proofs.Describing.{same_description}
-use Rattle.served_tenants.specs.Exchanges.{unsaid, CarriesOutAt, OpensSessionAt, has_stopped, turns_away, lacks_memory, takes, Replies}
-use Rattle.served_tenants.specs.ServedTenants.{ClientsOfTenant, tenant_of, SeemAlike, OpensItsOwn, IsEventOf, DeviceFailed, at_exception, at_refusal, MayPart, by_event, for_memory, by_look_up}
+use Rattle.served_tenants.specs.Exchanges.{unsaid, CarriesOutAt, OpensSessionAt, has_stopped, turns_away, lacks_memory, takes, StopsWithDevice, Replies}
+use Rattle.served_tenants.specs.ServedTenants.{ClientsOfTenant, tenant_of, SeemAlike, HasLookUpSessions, OpensItsOwn, IsEventOf, DeviceFailed, at_exception, at_refusal, MayPart, by_event, for_memory, by_look_up, in_look_up_session}
 use Rattle.served_tenants.proofs.Renumbering.{own_session, own_text, lifted, session_at, described_at, one_description}
+use Rattle.served_tenants.proofs.LookingUp.{stopped_in, stopped_alike, stopped_sound}
 
 -- two texts, if any, are the same or not
 same_or_not : (x y : Option (List ℕ)) → (x ≡ y) ⊎ (x ≡ y → ⊥)
@@ -69,6 +71,18 @@ described_in f g is = cc
 
 answered_in : (p q : Answer) → reply.Answer p ≡ reply.Answer q → p ≡ q
 answered_in p q is = cc
+
+found_in : (f g : Found) → reply.Verifier f ≡ reply.Verifier g → f ≡ g
+found_in f g is = cc
+
+code_in : (c d : SqlState) → ◌≡◌ {A = Found} (Err c) (Err d) → c ≡ d
+code_in c d is = cc
+
+code_found : (c d : SqlState) → reply.Verifier (Err c) ≡ reply.Verifier (Err d) → c ≡ d
+code_found c d is = code_in c d (found_in (Err c) (Err d) is)
+
+text_in : (t u : Option (List ℕ)) → ◌≡◌ {A = Found} (Ok t) (Ok u) → t ≡ u
+text_in t u is = cc
 
 -- an opening that is refused memory leaves the machine
 opening_left : (Reads : ReadingRelation) (w next : At) (c n : ℕ) (login : TheName) (p : Answer) → w.standing.machine.stopped ≡ false → CarriesOutAt Reads w c (event.Open n login) p next → p ≡ Refused OutOfMemory →
@@ -292,13 +306,51 @@ module _ (Reads : ReadingRelation) (once : ReadsOnce Reads) (a : ClientsOfTenant
       found_leaves role t x y (as_it_was same) = same
       found_leaves role t x y (stopped_within io free after) = let contrary : ◌≡◌ {A = Found} (Ok t) (Err IoError) = io in cc
 
+      -- the devices of both have failed
+      stopped_both : (table role : TheName) (r s : Reply) → r ≡ reply.Verifier (Err IoError) → s ≡ reply.Verifier (Err IoError) → m.stopped ≡ false → next.standing.machine ≡ stopped_in role m → later.standing.machine ≡ stopped_in role k →
+          Ends (want.Verifier table role) r s
+      stopped_both table role r s is is_there runs after after_there = at (a.clients (place look_up_client)) (a.clients (place_there look_up_client)) refl refl where
+        counted : HasLookUpSessions a place ⊎ HasLookUpSessions a place_there → Ends (want.Verifier table role) r s
+        counted has = parts (in_look_up_session table role refl runs (sym st.stopped ∙ runs) is is_there has)
+
+        at : (b n : Bool) → a.clients (place look_up_client) ≡ b → a.clients (place_there look_up_client) ≡ n → Ends (want.Verifier table role) r s
+        at true n has there = counted (inl has)
+        at false true here has = counted (inr has)
+        at false false here there = agrees (is ∙ sym is_there)
+            (subst (λ (y : Machine). IsAlikeTo (tenant_of a) (rm y) (rk later.standing.machine)) (sym after)
+            (subst (λ (y : Machine). IsAlikeTo (tenant_of a) (rm (stopped_in role m)) (rk y)) (sym after_there) (stopped_alike a place place_there apart apart_there here there role m k st)))
+            (subst (λ (y : Machine). AreSound (rm y)) (sym after) (stopped_sound place role m on)) (subst (λ (y : Machine). AreSound (rk y)) (sym after_there) (stopped_sound place_there role k on_there))
+
+      -- both look-ups failed alike
+      failed_both : (table role : TheName) (code : SqlState) (r s : Reply) → r ≡ reply.Verifier (Err code) → s ≡ reply.Verifier (Err code) → IsLeftByLookUp role (Err code) m next.standing.machine → IsLeftByLookUp role (Err code) k later.standing.machine →
+          StopsWithDevice w (Err code) next → StopsWithDevice v (Err code) later → (b : Bool) → m.stopped ≡ b → Ends (want.Verifier table role) r s
+      failed_both table role code r s is is_there left left_there stops stops_there true was =
+          unmoved (want.Verifier table role) r s (is ∙ sym is_there) (stood next w (stops.stopped was).1) (stood later v (stops_there.stopped (sym st.stopped ∙ was)).1)
+      failed_both table role code r s is is_there left left_there stops stops_there false runs = by_left left left_there where
+        by_left : IsLeftByLookUp role (Err code) m next.standing.machine → IsLeftByLookUp role (Err code) k later.standing.machine → Ends (want.Verifier table role) r s
+        by_left (as_it_was same) (as_it_was same_there) = unmoved (want.Verifier table role) r s (is ∙ sym is_there) same same_there
+        by_left (as_it_was same) (stopped_within io free after) = let contrary : true ≡ false = sym (stops.fails io) ∙ ap (λ (x : Machine). x.stopped) same ∙ runs in cc
+        by_left (stopped_within io free after) (as_it_was same) = let contrary : true ≡ false = sym (stops_there.fails io) ∙ ap (λ (x : Machine). x.stopped) same ∙ sym st.stopped ∙ runs in cc
+        by_left (stopped_within io free after) (stopped_within io_there free_there after_there) =
+            stopped_both table role r s (is ∙ ap (λ (f : Found). reply.Verifier f) io) (is_there ∙ ap (λ (f : Found). reply.Verifier f) io) runs after after_there
+
       looked : (table role : TheName) (r s : Reply) → Replies Reads w c (want.Verifier table role) r next → Replies Reads v d (want.Verifier table role) s later → Ends (want.Verifier table role) r s
-      looked table role r s (Err code, is, left, kept) it_there = parts (by_look_up table role refl (inl (code, is)))
-      looked table role r s (Ok t, is, left, kept) (Err code, is_there, left_there, kept_there) = parts (by_look_up table role refl (inr (inl (code, is_there))))
-      looked table role r s (Ok t, is, left, kept) (Ok u, is_there, left_there, kept_there) = at (same_or_not t u) where
+      looked table role r s (Err code, is, left, kept, stops) (Err other, is_there, left_there, kept_there, stops_there) = at (one_refusal_or_not (Refused code) (Refused other)) where
+        at : AreOneRefusal (Refused code) (Refused other) ⊎ (AreOneRefusal (Refused code) (Refused other) → ⊥) → Ends (want.Verifier table role) r s
+        at (inl (one, here, there)) =
+            let same : other ≡ code = one_code other code (there ∙ sym here) in
+            failed_both table role code r s is (is_there ∙ ap (λ (i : SqlState). reply.Verifier (Err i)) same) left
+            (subst (λ (i : SqlState). IsLeftByLookUp role (Err i) k later.standing.machine) same left_there) stops (subst (λ (i : SqlState). StopsWithDevice v (Err i) later) same stops_there) m.stopped refl
+        at (inr differ) =
+            parts (by_look_up table role refl (inl (code, is)) (λ one. differ (code, refl, ap (λ (i : SqlState). Refused i) (code_found other code (sym is_there ∙ sym one ∙ is)))))
+      looked table role r s (Err code, is, left, kept, stops) (Ok u, is_there, left_there, kept_there, stops_there) =
+          parts (by_look_up table role refl (inl (code, is)) (λ one. let contrary : ◌≡◌ {A = Found} (Err code) (Ok u) = found_in (Err code) (Ok u) (sym is ∙ one ∙ is_there) in cc))
+      looked table role r s (Ok t, is, left, kept, stops) (Err code, is_there, left_there, kept_there, stops_there) =
+          parts (by_look_up table role refl (inr (inl (code, is_there))) (λ one. let contrary : ◌≡◌ {A = Found} (Ok t) (Err code) = found_in (Ok t) (Err code) (sym is ∙ one ∙ is_there) in cc))
+      looked table role r s (Ok t, is, left, kept, stops) (Ok u, is_there, left_there, kept_there, stops_there) = at (same_or_not t u) where
         at : (t ≡ u) ⊎ (t ≡ u → ⊥) → Ends (want.Verifier table role) r s
         at (inl one) = unmoved (want.Verifier table role) r s (is ∙ ap (λ (x : Option (List ℕ)). reply.Verifier (Ok x)) one ∙ sym is_there) (found_leaves role t m next.standing.machine left) (found_leaves role u k later.standing.machine left_there)
-        at (inr other) = parts (by_look_up table role refl (inr (inr (λ both. other (kept ∙ both ∙ sym kept_there)))))
+        at (inr other) = parts (by_look_up table role refl (inr (inr (λ both. other (kept ∙ both ∙ sym kept_there)))) (λ one. other (text_in t u (found_in (Ok t) (Ok u) (sym is ∙ one ∙ is_there)))))
 
       -- ---- each
 

@@ -8,7 +8,7 @@ use Rattle.sql_types.specs.declared.event.Event.TheVariants as event
 use Rattle.abstract_database.specs.Lists.{TheName}
 use Rattle.abstract_database.specs.Database.{Database}
 use Rattle.abstract_database.specs.Machine.{Event as MachineEvent, executes, Reading, Machine}
-use Rattle.abstract_database.specs.Runs.{Counts, IsReadAs, At}
+use Rattle.abstract_database.specs.Runs.{Counts, ReadingRelation, IsReadAs, At}
 use Rattle.abstract_database.specs.Statements.{UserPair}
 use Rattle.database_laws.specs.HiddenRuns.{SameApparentRowsForPairs, IsInPlace, not_issued, failed, answer_to}
 use Rattle.database_laws.specs.Told.{Tenant, happens, IsExceptionFor, IsCrowded, LeavesTenant, by_role}
@@ -21,8 +21,8 @@ use Rattle.server.specs.Standing.{event_of}
 use Rattle.talks.specs.declared.want.Want.TheVariants as want
 use Rattle.talks.specs.declared.want.Reply.{Reply}
 use Rattle.talks.specs.declared.want.Reply.TheVariants as reply
-use Rattle.served_tenants.specs.ServedTenants.{tenant_of, SeemAlike, OthersOutOfSight, at_exception, at_refusal, MayPart, by_event, for_memory, by_look_up, over_here, told_alike, told_apart, untold_here, untold_there, failed_here, failed_there}
-use Rattle.served_tenants.specs.ServedApart.{ReadsTheSelect, standing_with, asking, anns_client, one_place, other_place, begins, opened, asked, one_run, begins_there, opened_by_bob, opened_there, closed_there, asked_there, other_run, one_made, other_made, RunsMeetThePremises, RunsPartAtSelect}
+use Rattle.served_tenants.specs.ServedTenants.{tenant_of, SeemAlike, OthersOutOfSight, at_exception, at_refusal, MayPart, by_event, for_memory, by_look_up, in_look_up_session, over_here, told_alike, told_apart, untold_here, untold_there, failed_here, failed_there}
+use Rattle.served_tenants.specs.ServedApart.{ReadsTheSelect, standing_with, asking, anns_client, one_place, other_place, begins, opened, asked, one_run, begins_there, opened_by_bob, opened_there, closed_there, asked_there, other_run, one_made, other_made, LookUpsToldAlikePartNothing, RunsMeetThePremises, RunsPartAtSelect}
 use Rattle.served_tenants.proofs.Telling.{opened_alike}
 
 clash : true ≡ false → ⊥
@@ -86,6 +86,14 @@ runs_meet = record {
   shown_there = refl;
 }
 
+-- ---- at a look-up
+
+pub look_ups_part_nothing : (Reads : ReadingRelation) → LookUpsToldAlikePartNothing Reads
+look_ups_part_nothing Reads a place place_there w next v later c table role r (by_event e p q never is is_there parts) = absurd never
+look_ups_part_nothing Reads a place place_there w next v later c table role r (for_memory lacks differ) = absurd (differ refl)
+look_ups_part_nothing Reads a place place_there w next v later c table role r (by_look_up other whose is cause differ) = absurd (differ refl)
+look_ups_part_nothing Reads a place place_there w next v later c table role r (in_look_up_session other whose is runs runs_there io io_there has) = has
+
 -- ---- at a SELECT
 
 abbrev m : Machine
@@ -148,7 +156,8 @@ one_reading e is read reads = at (subst (λ (x : Event). IsReadAs ReadsTheSelect
 parts_never : (next later : At) → MayPart ReadsTheSelect anns_client (λ c. c) (λ c. c) w next v later 0 (want.Event (event.Statement 1 [])) (reply.Answer (answer_to m (asking 0))) (reply.Answer (answer_to k (asking 0))) → ⊥
 parts_never next later (for_memory (inl never) differ) = never
 parts_never next later (for_memory (inr never) differ) = never
-parts_never next later (by_look_up table role is cause) = no_look_up (event.Statement 1 []) table role is
+parts_never next later (by_look_up table role is cause differ) = no_look_up (event.Statement 1 []) table role is
+parts_never next later (in_look_up_session table role is runs runs_there io io_there has) = no_look_up (event.Statement 1 []) table role is
 parts_never next later (by_event e p q of is is_there (at_refusal (inl in_place) none)) = none_in_place p w.counts next.counts (not_refused p (answer_to m (asking 0)) is refl) in_place
 parts_never next later (by_event e p q of is is_there (at_refusal (inr in_place) none)) = none_in_place q v.counts later.counts (not_refused q (answer_to k (asking 0)) is_there refl) in_place
 parts_never next later (by_event e p q of is is_there (at_exception read reads exception none)) =

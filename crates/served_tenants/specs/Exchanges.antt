@@ -1,5 +1,5 @@
 -- What a server does for its clients, one exchange after the other, and where it stands in between.
-use Rattle.std.specs.Prelude.{◌≡◌, ℕ, true, false, List, [], ◌∷◌, ◌++◌, IfOk}
+use Rattle.std.specs.Prelude.{◌≡◌, ℕ, true, false, List, [], ◌∷◌, ◌++◌, Err, IfOk}
 use Rattle.std.specs.Option.{option_map}
 use Rattle.sql_types.specs.declared.answer.Answer.{Answer}
 use Rattle.sql_types.specs.declared.answer.Answer.TheVariants.{Refused}
@@ -46,6 +46,11 @@ pub data OpensSessionAt (Reads : ReadingRelation) (w : At) (c n : ℕ) (login : 
   lacks_memory : w.standing.machine.stopped ≡ false → is_way_of entry.way login ≡ true → a ≡ Refused OutOfMemory → next ≡ w → OpensSessionAt Reads w c n login entry a next
   takes : w.standing.machine.stopped ≡ false → admits w.standing.machine.committed entry login ≡ true → CarriesOutAt Reads w c (event.Open n login) a next → OpensSessionAt Reads w c n login entry a next
 
+-- a look-up that the device fails has stopped the server, and one of a server that has stopped does nothing
+pub record StopsWithDevice (w : At) (f : Found) (next : At) : Type 0 where
+  pub fails : f ≡ Err IoError → next.standing.machine.stopped ≡ true
+  pub stopped : w.standing.machine.stopped ≡ true → (f ≡ Err IoError) × (next ≡ w)
+
 -- what a client wants is done where the server stands, and this is the reply: an event is carried out, which opens no session, or a session is asked
 -- for; a question is answered, and the server stands as before; or a verifier is looked up, and it stands as before or has stopped
 abbrev pub Replies : ReadingRelation → At → ℕ → Want → Reply → At → Type 0
@@ -56,6 +61,7 @@ Replies Reads w c (want.Standing n) r next = (r ≡ reply.Standing (option_map (
 Replies Reads w c (want.Description n text) r next = (d : StatementDescription) × (r ≡ reply.Description d) × IsDescription Reads w.standing.machine (number_in c n) text d × (next ≡ w)
 Replies Reads w c (want.Verifier table role) r next =
     (f : Found) × (r ≡ reply.Verifier f) × IsLeftByLookUp role f w.standing.machine next.standing.machine × IfOk f (λ text. text ≡ kept_text w.standing.machine.committed table role)
+    × StopsWithDevice w f next
 Replies Reads w c _ r next = ⊥
 
 -- one exchange after the other

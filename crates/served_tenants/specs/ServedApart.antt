@@ -1,9 +1,10 @@
 -- Two runs that meet the premises, in which a tenant is told alike to the end; and two that the law refuses.
-use Rattle.std.specs.Prelude.{◌≡◌, ℕ, nat_eq, true, List, [], ◌∷◌, codes, None}
+use Rattle.std.specs.Prelude.{◌≡◌, ◌⊎◌, ℕ, nat_eq, true, List, [], ◌∷◌, codes, None}
 use Rattle.std.proofs.Common.{refl, arith}
 use Prim.Native.String.{String}
 use Rattle.sql_types.specs.declared.event.Event.{Event}
 use Rattle.sql_types.specs.declared.event.Event.TheVariants as event
+use Rattle.abstract_database.specs.Lists.{TheName}
 use Rattle.abstract_database.specs.Machine.{Event as MachineEvent, opens, executes, closes, Reading, Machine, machine_over, number_in}
 use Rattle.abstract_database.specs.Runs.{ReadingRelation, IsReadAs, Counts, NoneFalls, At, by_transition}
 use Rattle.database_laws.specs.HiddenRuns.{answer_to, after}
@@ -12,12 +13,13 @@ use Rattle.client_laws.specs.Clients.{place_of}
 use Rattle.client_laws.specs.Renumbered.{IsOneToOne}
 use Rattle.server.specs.Standing.{event_of}
 use Rattle.talks.specs.declared.want.Want.TheVariants as want
+use Rattle.talks.specs.declared.want.Reply.{Reply}
 use Rattle.talks.specs.declared.want.Reply.TheVariants as reply
 use Rattle.talks.specs.declared.want.Way.TheVariants as way
 use Rattle.talks.specs.declared.want.SessionEntry.{SessionEntry}
 use Rattle.talks.specs.Turns.{Exchange}
 use Rattle.served_tenants.specs.Exchanges.{CarriesOutAt, takes, Exchanges}
-use Rattle.served_tenants.specs.ServedTenants.{ClientsOfTenant, SeemAlike, own_exchanges, OthersOutOfSight, AskAlike, TellAlike}
+use Rattle.served_tenants.specs.ServedTenants.{ClientsOfTenant, SeemAlike, own_exchanges, HasLookUpSessions, OthersOutOfSight, AskAlike, MayPart, TellAlike}
 use Rattle.served_tenants.specs.SaidTenants.{NeverParts}
 
 -- ---- a store that counts nothing
@@ -140,6 +142,13 @@ pub record RunsMeetThePremises : Type 0 where
   pub to_the_end : NeverParts told
   pub shown : answer_to opened (asking 0) ≡ her_note
   pub shown_there : answer_to closed_there (asking 5) ≡ her_note
+
+-- ---- look-ups
+
+-- what both servers reply alike to a look-up parts no runs, unless the sessions of look-ups count as the tenant's
+abbrev pub LookUpsToldAlikePartNothing : ReadingRelation → Type 0
+LookUpsToldAlikePartNothing Reads = (a : ClientsOfTenant) (place place_there : ℕ → ℕ) (w next v later : At) (c : ℕ) (table role : TheName) (r : Reply) →
+    MayPart Reads a place place_there w next v later c (want.Verifier table role) r r → HasLookUpSessions a place ⊎ HasLookUpSessions a place_there
 
 -- ---- where the law is broken
 

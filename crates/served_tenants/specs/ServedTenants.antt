@@ -21,6 +21,7 @@ use Rattle.database_laws.specs.Told.{Tenant, IsAlikeTo, happens, IsExceptionFor}
 use Rattle.database_laws.specs.ToldStores.{AreRefusedAlike}
 use Rattle.client_laws.specs.Renumbered.{IsOneToOne, renumbered_machine}
 use Rattle.server.specs.Standing.{event_of}
+use Rattle.server.specs.LookUps.{look_up_client}
 use Rattle.talks.specs.declared.want.Want.{Want}
 use Rattle.talks.specs.declared.want.Want.TheVariants as want
 use Rattle.talks.specs.declared.want.Reply.{Reply}
@@ -56,6 +57,10 @@ module _ (a : ClientsOfTenant) (place : ℕ → ℕ) where
 
   abbrev pub own_exchanges : List Exchange → List Exchange
   own_exchanges xs = filter is_own xs
+
+  -- the sessions in which the server looks verifiers up, which are no client's, count as the tenant's
+  abbrev pub HasLookUpSessions : Type 0
+  HasLookUpSessions = a.clients (place look_up_client) ≡ true
 
   -- the tenant opens its sessions for its own login roles alone, but for attempts that are refused
   abbrev pub OpensItsOwn : Machine → Want → Type 0
@@ -111,13 +116,16 @@ module _ (Reads : ReadingRelation) (a : ClientsOfTenant) (place place_there : �
         IsExceptionFor (tenant_of a) (renumbered_machine place w.standing.machine) (renumbered_machine place_there v.standing.machine) (happens read) → (AreRefusedAlike Reads e p q → ⊥) → PartsAtEvent w next v later e p q
     at_refusal : IsInPlace w.counts next.counts p ⊎ IsInPlace v.counts later.counts q → (AreRefusedAlike Reads e p q → ⊥) → PartsAtEvent w next v later e p q
 
-  -- What a client at this place wants in both runs may part them: as such an event; where memory is refused to it in one run alone; or as the
-  -- look-up of a verifier, which failed, or which the tables of both keep otherwise
+  -- What a client at this place wants in both runs may part them: as such an event; where memory is refused to it in one run alone; as the
+  -- look-up of a verifier that failed, or that the tables of both keep otherwise, where the replies differ; or as one in which the devices of
+  -- both have failed, if the sessions of look-ups count as the tenant's
   pub data MayPart (w next v later : At) (c : ℕ) (x : Want) (r s : Reply) : Type 0 where
     by_event : (e : Event) (p q : Answer) → IsEventOf x e → r ≡ reply.Answer p → s ≡ reply.Answer q → PartsAtEvent w next v later (event_of c e) p q → MayPart w next v later c x r s
     for_memory : LacksMemory x r ⊎ LacksMemory x s → (r ≡ s → ⊥) → MayPart w next v later c x r s
     by_look_up : (table role : TheName) → x ≡ want.Verifier table role →
-        FailsToLookUp r ⊎ FailsToLookUp s ⊎ (kept_text w.standing.machine.committed table role ≡ kept_text v.standing.machine.committed table role → ⊥) → MayPart w next v later c x r s
+        FailsToLookUp r ⊎ FailsToLookUp s ⊎ (kept_text w.standing.machine.committed table role ≡ kept_text v.standing.machine.committed table role → ⊥) → (r ≡ s → ⊥) → MayPart w next v later c x r s
+    in_look_up_session : (table role : TheName) → x ≡ want.Verifier table role → w.standing.machine.stopped ≡ false → v.standing.machine.stopped ≡ false →
+        r ≡ reply.Verifier (Err IoError) → s ≡ reply.Verifier (Err IoError) → HasLookUpSessions a place ⊎ HasLookUpSessions a place_there → MayPart w next v later c x r s
 
   -- From where two servers stand, their exchanges tell the tenant alike: each of its own is the same in both, client by place, up to the end of
   -- one run, or to the first at which they may part, or at which the device fails under another

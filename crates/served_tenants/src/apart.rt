@@ -1,6 +1,8 @@
 //! Runs that meet the premises of these laws, and runs that they refuse.
 
-ghost use Rattle.served_tenants.specs.ServedApart.{RunsMeetThePremises, RunsPartAtSelect};
+ghost use Rattle.served_tenants.specs.ServedApart.{LookUpsToldAlikePartNothing, RunsMeetThePremises, RunsPartAtSelect};
+
+use server::decide::EventHandler;
 
 /// Two runs meet the premises of `servers_tell_clients_what_they_see`, and are told alike to the end. A tenant has one
 /// client, which comes alone to one server. To the other another came before it, and goes in between; so the tenant's
@@ -9,4 +11,10 @@ ghost use Rattle.served_tenants.specs.ServedApart.{RunsMeetThePremises, RunsPart
 pub fn clients_part_at_a_select()
     ensures alike { RunsMeetThePremises }
     ensures apart { RunsPartAtSelect }
+{}
+
+/// A look-up of a verifier to which both servers reply alike, as one that both refuse for memory, parts no runs. So it is
+/// whichever clients are the tenant's, but for one of the number under which servers look verifiers up: that is no client.
+pub fn look_ups_told_alike_part_nothing<X: EventHandler>()
+    ensures { LookUpsToldAlikePartNothing X.Reads }
 {}

@@ -19,8 +19,9 @@ use talks::talk::Talk;
 ///
 /// So it is up to the end of one run, or to where the runs may part. That is an own event that is an exception of
 /// `tenants_are_told_what_they_see` of `database_laws`, or that one store alone refuses in place of the machine; an
-/// opening or a description that is refused memory; the look-up of a verifier that fails, or that both tables do not
-/// keep alike; or a failure of a device under what another wants.
+/// opening or a description that is refused memory; the look-up of a verifier that fails or that both tables do not keep
+/// alike, where the replies differ; or a failure of a device under what another wants. A look-up that both refuse alike
+/// ends nothing. One is left: where both devices fail in it, and the tenant has the number of its client, which nobody has.
 ///
 /// `opened`: so it is of two servers that have just been opened over databases which look alike to the tenant.
 pub fn servers_tell_clients_what_they_see<
