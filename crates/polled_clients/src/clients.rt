@@ -75,8 +75,8 @@ pub struct ClientLimits {
 /// Clients over connections of which no call waits.
 ///
 /// A client is listed where something can be done for it at once, and a round gives each that is
-/// listed one turn: one write, and one read or one thing that it wants of the machine. Before each
-/// round it is asked who may have something to do; where nobody is listed, that waits.
+/// listed one turn: one read and up to 16 messages, or one thing that it wants of the machine. Before
+/// each round it is asked who may have something to do; where nobody is listed, that waits.
 #[derive(Drop)]
 pub struct PolledClients<T, C, A, F> {
     pub(crate) alloc: Global,
@@ -86,6 +86,8 @@ pub struct PolledClients<T, C, A, F> {
     // What one is told who comes to the place of each number while as many are there as may be.
     pub(crate) refusal: Vec<Vec<u8>>,
     pub(crate) peers: IndexMap<u32, Peer<T, C>>,
+    // What comes of a client is read into it, whichever that is: made at the first read, and kept.
+    buffer: Vec<u8>,
     pub(crate) came: u32,
     waiting: Vec<u32>,
     pub(crate) lock: LockWatch,
@@ -125,6 +127,7 @@ impl<T: Talk + Drop, C: Channel + Drop, A: Attend<C>, F: TalkMaker<T>> PolledCli
             limits,
             refusal,
             peers: IndexMap::new(alloc),
+            buffer: Vec::new(alloc),
             came: 0,
             waiting: Vec::new(alloc),
             lock: LockWatch::new(limits.block),
@@ -258,7 +261,7 @@ impl<T: Talk + Drop, C: Channel + Drop, A: Attend<C>, F: TalkMaker<T>> PolledCli
             cut_off: self.lock.is_cut_off(pick.client),
             expelled: self.lock.is_expelled(pick.client),
         };
-        take_turn(&mut self.peers, pick, order, self.time)
+        take_turn(&mut self.peers, pick, order, self.time, &mut self.buffer)
     }
 
     // Before a round: wakes one to whom something may have come, or takes one that comes, or asks

@@ -5,7 +5,9 @@ ghost use Rattle.polled_clients.specs.Peers.{MayEnd, has_passed_limit};
 
 use crate::need::{EndOrder, is_end, is_message, is_out_of_memory, is_question, is_step};
 use crate::peer::Peer;
+use crate::times::{after, earlier};
 use channels::channel::Channel;
+use std::time::Duration;
 use talks::clients::EndCause;
 use talks::talk::Talk;
 
@@ -72,6 +74,11 @@ impl<T: Talk, C: Channel> Peer<T, C> {
     // Whether bytes are to go out, which its connection may take.
     fn can_send(&self) -> bool {
         !self.is_blocked && !self.queue.is_empty() && !self.is_late()
+    }
+
+    /// When its limits are to be looked at, if they are.
+    pub fn next_look(&self, idle: Option<Duration>) -> Option<Duration> {
+        earlier(after(self.active, idle), self.late_until())
     }
 
     /// Whether there is something to do for it at once.

@@ -4,6 +4,7 @@
 mod arrivals;
 pub mod clients;
 mod ends;
+mod hearing;
 pub mod held;
 pub mod limits;
 pub mod lock_watch;
@@ -13,6 +14,7 @@ pub mod need;
 pub mod peer;
 pub mod peers;
 mod rounds;
+mod sending;
 pub mod strangers;
 pub mod times;
 pub mod turns;

@@ -9,10 +9,10 @@ ghost use Rattle.polled_clients.specs.Peers.{conversation_of, Goes, HasNeed};
 ghost use Rattle.polled_clients.specs.Strangers.{opens_session as is_opened};
 ghost use Rattle.polled_clients.specs.declared.need.EndOrder.{EndOrder as TheOrder};
 
-use crate::held::{drop_front, keep};
+use crate::held::{drop_front, keep, make_room};
 use crate::need::{EndOrder, Need, is_late_end, is_message, is_question, is_step};
 use crate::strangers::opens_session;
-use crate::times::{after, earlier, is_past};
+use crate::times::{after, is_past};
 use channels::behind::behind;
 use channels::channel::{Channel, Received};
 use channels::send_queue::{SendQueue, Sending};
@@ -21,9 +21,6 @@ use std::time::Duration;
 use talks::clients::EndCause;
 use talks::talk::{MessageFront, Talk};
 use talks::want::{Reply, Want};
-
-/// How many bytes are read at once, at most.
-const READ_SIZE: usize = 8_192;
 
 /// So many bytes that have not gone out, and nothing more is read of a client, and no step made.
 const QUEUE_SIZE: usize = 65_536;
@@ -54,13 +51,13 @@ pub struct Peer<T, C> {
     pub(crate) has_session: bool,
     pub(crate) is_turned_out: bool,
     // When it last had a turn, or its limits were looked at.
-    time: Duration,
+    pub(crate) time: Duration,
     // Whether bytes have come of it or gone out to it since its limits were looked at, and when they
     // had for the last time, or something was to be done for it.
     has_moved: bool,
-    active: Duration,
+    pub(crate) active: Duration,
     // Until when what was said before a late end does not go out.
-    late_until: Option<Duration>,
+    pub(crate) late_until: Option<Duration>,
     // Until when its step waits, while it does, and whether that is over.
     waits_until: Option<Duration>,
     has_waited: bool,
@@ -105,8 +102,15 @@ impl<T: Talk, C: Channel> Peer<T, C> {
         }
     }
 
-    /// Takes its turn: does what there is to do for it, or gives out its step that has waited.
-    pub fn take_turn(&mut self, offered: Option<Duration>, order: EndOrder, now: Duration) -> Need
+    /// Takes its turn: does what there is to do for it, or gives out its step that has waited. What comes
+    /// of it is read into `buffer`.
+    pub fn take_turn(
+        &mut self,
+        offered: Option<Duration>,
+        order: EndOrder,
+        now: Duration,
+        buffer: &mut Vec<u8>,
+    ) -> Need
         ensures goes { Goes T.Talk C.Channel self.old [] self.new }
         ensures session { self.new.has_session ≡ self.old.has_session }
         ensures need { HasNeed T.Talk C.Channel order result self.new }
@@ -114,12 +118,12 @@ impl<T: Talk, C: Channel> Peer<T, C> {
         self.time = now;
         match offered {
             Some(asked) => self.offer(asked, order),
-            None => self.attend(order),
+            None => self.attend(order, buffer),
         }
     }
 
     // Does what there is to do for the client, and tells what it has to do with the machine.
-    fn attend(&mut self, order: EndOrder) -> Need
+    fn attend(&mut self, order: EndOrder, buffer: &mut Vec<u8>) -> Need
         ensures goes { Goes T.Talk C.Channel self.old [] self.new }
         ensures session { self.new.has_session ≡ self.old.has_session }
         ensures need { HasNeed T.Talk C.Channel order result self.new }
@@ -131,29 +135,29 @@ impl<T: Talk, C: Channel> Peer<T, C> {
                 }
                 Need::Nothing
             }
-            None => self.proceed(order),
+            None => self.proceed(order, buffer),
         }
     }
 
     // Does what there is to do for a client whose connection has not ended.
-    fn proceed(&mut self, order: EndOrder) -> Need
+    fn proceed(&mut self, order: EndOrder, buffer: &mut Vec<u8>) -> Need
         requires { self.old.end_cause ≡ None }
         ensures goes { Goes T.Talk C.Channel self.old [] self.new }
         ensures session { self.new.has_session ≡ self.old.has_session }
         ensures need { HasNeed T.Talk C.Channel order result self.new }
     {
-        self.send_if_due();
+        self.send_if_due(order);
         match self.cause(order) {
             Some(end_cause) => {
                 self.end_cause = Some(end_cause);
                 Need::Left(end_cause)
             }
-            None => self.advance(order),
+            None => self.advance(order, buffer),
         }
     }
 
     // Tells what it wants of the machine, and reads and hears it first where it wants a message.
-    fn advance(&mut self, order: EndOrder) -> Need
+    fn advance(&mut self, order: EndOrder, buffer: &mut Vec<u8>) -> Need
         requires { self.old.end_cause ≡ None }
         ensures goes { Goes T.Talk C.Channel self.old [] self.new }
         ensures session { self.new.has_session ≡ self.old.has_session }
@@ -163,13 +167,13 @@ impl<T: Talk, C: Channel> Peer<T, C> {
             return Need::Nothing;
         }
         if is_message(self.talk.want()) {
-            return self.listen(order);
+            return self.listen(order, buffer);
         }
         self.need()
     }
 
-    // Hears a message, and tells what it wants of the machine then.
-    fn listen(&mut self, order: EndOrder) -> Need
+    // Hears messages, and tells what it wants of the machine then. What was said goes out before a step.
+    fn listen(&mut self, order: EndOrder, buffer: &mut Vec<u8>) -> Need
         requires wants { T.wants self.old.talk ≡ TheWant.Message }
         requires served { order.cut_off ≡ false }
         requires running { self.old.end_cause ≡ None }
@@ -177,7 +181,9 @@ impl<T: Talk, C: Channel> Peer<T, C> {
         ensures session { self.new.has_session ≡ self.old.has_session }
         ensures need { HasNeed T.Talk C.Channel order result self.new }
     {
-        self.hear_next();
+        self.hear_next(buffer);
+        self.hear_on();
+        self.send_if_due(order);
         self.need()
     }
 
@@ -241,14 +247,14 @@ impl<T: Talk, C: Channel> Peer<T, C> {
         Need::Nothing
     }
 
-    // Lets go out what its connection takes now, unless that is to go out later.
-    fn send_if_due(&mut self)
+    // Lets go out what its connection takes now, where that is due.
+    fn send_if_due(&mut self, order: EndOrder)
         ensures goes { Goes T.Talk C.Channel self.old [] self.new }
         ensures session { self.new.has_session ≡ self.old.has_session }
         ensures end_cause { self.new.end_cause ≡ self.old.end_cause }
     {
         self.note_late_end();
-        if !self.is_late() {
+        if self.is_due(order) {
             self.send();
         }
     }
@@ -262,11 +268,6 @@ impl<T: Talk, C: Channel> Peer<T, C> {
         if self.late_until.is_none() && is_late_end(self.talk.want()) {
             self.late_until = after(self.time, Some(Duration::from_secs(LATE_SECONDS)));
         }
-    }
-
-    // Whether what was said is to go out later.
-    pub(crate) fn is_late(&self) -> bool {
-        self.late_until.is_some() && !is_past(self.late_until, self.time)
     }
 
     // Lets go out what its connection takes now.
@@ -283,7 +284,7 @@ impl<T: Talk, C: Channel> Peer<T, C> {
     }
 
     // Hears the message at the front, and reads first where none is whole.
-    fn hear_next(&mut self)
+    fn hear_next(&mut self, buffer: &mut Vec<u8>)
         requires wants { T.wants self.old.talk ≡ TheWant.Message }
         requires running { self.old.end_cause ≡ None }
         ensures goes { Goes T.Talk C.Channel self.old [] self.new }
@@ -291,20 +292,20 @@ impl<T: Talk, C: Channel> Peer<T, C> {
         ensures end_cause { self.new.end_cause ≡ None }
     {
         if self.has_no_front() && !self.is_quiet {
-            self.receive_and_hear();
+            self.receive_and_hear(buffer);
         } else {
             self.hear();
         }
     }
 
     // Reads what has come, and hears the message at the front.
-    fn receive_and_hear(&mut self)
+    fn receive_and_hear(&mut self, buffer: &mut Vec<u8>)
         requires { self.old.end_cause ≡ None }
         ensures goes { Goes T.Talk C.Channel self.old [] self.new }
         ensures session { self.new.has_session ≡ self.old.has_session }
         ensures end_cause { self.new.end_cause ≡ None }
     {
-        self.receive();
+        self.receive(buffer);
         if is_message(self.talk.want()) {
             self.hear();
         }
@@ -321,7 +322,7 @@ impl<T: Talk, C: Channel> Peer<T, C> {
     }
 
     // Makes room, and reads what has come.
-    fn receive(&mut self)
+    fn receive(&mut self, buffer: &mut Vec<u8>)
         requires { self.old.end_cause ≡ None }
         ensures goes { Goes T.Talk C.Channel self.old [] self.new }
         ensures session { self.new.has_session ≡ self.old.has_session }
@@ -329,23 +330,22 @@ impl<T: Talk, C: Channel> Peer<T, C> {
     {
         drop_front(&mut self.held, self.heard);
         self.heard = 0;
-        match self.held.reserve(READ_SIZE) {
-            Ok(()) => self.read(),
+        match make_room(&mut self.held, buffer) {
+            Ok(()) => self.read(buffer),
             Err(_) => self.talk.give_up(),
         }
     }
 
-    // Reads what has come.
-    fn read(&mut self)
-        requires room { vec_len self.old.held + 8192 ≤ vec_capacity self.old.held }
+    // Reads what has come into a buffer, of which no more is kept than that.
+    fn read(&mut self, buffer: &mut [u8])
+        requires room { vec_len self.old.held + length buffer.old ≤ vec_capacity self.old.held }
         requires heard { self.old.heard ≡ 0 }
         requires running { self.old.end_cause ≡ None }
         ensures goes { Goes T.Talk C.Channel self.old [] self.new }
         ensures session { self.new.has_session ≡ self.old.has_session }
         ensures end_cause { self.new.end_cause ≡ None }
     {
-        let mut buffer = [0; READ_SIZE];
-        match self.channel.receive(&mut buffer) {
+        match self.channel.receive(buffer) {
             Received::Bytes(count) => {
                 self.has_moved = true;
                 keep(&mut self.held, &buffer[..count]);
@@ -354,8 +354,8 @@ impl<T: Talk, C: Channel> Peer<T, C> {
         }
     }
 
-    // Hears what stands at the front.
-    fn hear(&mut self)
+    /// Hears what stands at the front.
+    pub(crate) fn hear(&mut self)
         requires wants { T.wants self.old.talk ≡ TheWant.Message }
         requires running { self.old.end_cause ≡ None }
         ensures goes { Goes T.Talk C.Channel self.old [] self.new }
@@ -464,20 +464,6 @@ impl<T: Talk, C: Channel> Peer<T, C> {
         ensures ends { self.new.is_turned_out ≡ true }
     {
         self.is_turned_out = true;
-    }
-
-    /// When its limits are to be looked at, if they are.
-    pub fn next_look(&self, idle: Option<Duration>) -> Option<Duration> {
-        earlier(after(self.active, idle), self.late_until())
-    }
-
-    /// Until when what was said does not go out, where that is late.
-    pub fn late_until(&self) -> Option<Duration> {
-        if self.is_late() {
-            self.late_until
-        } else {
-            None
-        }
     }
 
     /// Something may have come of it, or may go out to it.

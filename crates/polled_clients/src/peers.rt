@@ -17,12 +17,14 @@ use std::time::Duration;
 use talks::talk::Talk;
 use talks::want::Reply;
 
-/// Gives a client its turn: does what there is to do for it, or gives out its step that has waited.
+/// Gives a client its turn: does what there is to do for it, or gives out its step that has waited. What
+/// comes of it is read into `buffer`.
 pub fn take_turn<T: Talk, C: Channel>(
     peers: &mut IndexMap<u32, Peer<T, C>>,
     pick: Pick,
     order: EndOrder,
     now: Duration,
+    buffer: &mut Vec<u8>,
 ) -> Need
     ensures here { GoesOn T.Talk C.Channel (get nat_eq peers.old pick.client) [] (get nat_eq peers.new pick.client) }
     ensures session { has_session (get nat_eq peers.new pick.client) ≡ has_session (get nat_eq peers.old pick.client) }
@@ -30,7 +32,7 @@ pub fn take_turn<T: Talk, C: Channel>(
     ensures need { HasNeedHere T.Talk C.Channel order result (get nat_eq peers.new pick.client) }
 {
     match peers.get_mut(&pick.client) {
-        Some(peer) => peer.take_turn(pick.offered, order, now),
+        Some(peer) => peer.take_turn(pick.offered, order, now, buffer),
         None => Need::Nothing,
     }
 }
