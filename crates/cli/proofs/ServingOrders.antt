@@ -36,29 +36,30 @@ use Rattle.cli.specs.ServingClients.{IsDoorFor, password_place}
 use Rattle.cli.specs.Program.{IsPerformed, ServesMany, ServesManyAt, ServesManyBy, ServesPlaces, asks_for_passwords, bound_places}
 use Rattle.cli.specs.SeveralTalks.{StandsAtOne}
 
-module _ (X : Type 0) {D L K C S H T P U Q V W M N R : Type 0} (g : Ghosts D) (k : SinkGhosts K) (c : SinkGhosts C) (a : AttendGhosts L H) (t : TalkGhosts (DoorTalk T)) (p : ClientsGhosts P (DoorTalk T)) (u : TalkGhosts (DoorTalk U)) (q : ClientsGhosts Q (DoorTalk U)) (v : TalkGhosts (PasswordTalk V)) (w : ClientsGhosts W (PasswordTalk V)) (m : TalkGhosts (PostgresLoginTalk M)) (n : ClientsGhosts N (PostgresLoginTalk M)) {s : TalkGhosts (PlacedTalk (DoorTalk T) (DoorTalk U) (PasswordTalk V) (PostgresLoginTalk M))}
-    (o : TalkGhosts (EntryTalk (PlacedTalk (DoorTalk T) (DoorTalk U) (PasswordTalk V) (PostgresLoginTalk M)) s)) (r : ClientsGhosts R (EntryTalk (PlacedTalk (DoorTalk T) (DoorTalk U) (PasswordTalk V) (PostgresLoginTalk M)) s)) (Reads : ReadingRelation) (listening : L → Option Listening) (state : S → SystemState D L) (old : SystemState D L) where
+module _ (X : Type 0) {D L K C S H T P U Q V W M N R I : Type 0} (g : Ghosts D) (k : SinkGhosts K) (c : SinkGhosts C) (a : AttendGhosts L H) (t : TalkGhosts (DoorTalk T)) (p : ClientsGhosts P (DoorTalk T)) (u : TalkGhosts (DoorTalk U)) (q : ClientsGhosts Q (DoorTalk U)) (v : TalkGhosts (PasswordTalk V)) (w : ClientsGhosts W (PasswordTalk V)) (m : TalkGhosts (PostgresLoginTalk M)) (n : ClientsGhosts N (PostgresLoginTalk M)) {s : TalkGhosts (PlacedTalk (DoorTalk T) (DoorTalk U) (PasswordTalk V) (PostgresLoginTalk M))}
+    (o : TalkGhosts (EntryTalk (PlacedTalk (DoorTalk T) (DoorTalk U) (PasswordTalk V) (PostgresLoginTalk M)) s)) (r : ClientsGhosts R (EntryTalk (PlacedTalk (DoorTalk T) (DoorTalk U) (PasswordTalk V) (PostgresLoginTalk M)) s)) (MayDraw : I → List ℕ → Type 0) (Reads : ReadingRelation) (listening : L → Option Listening) (state : S → SystemState D L) (old : SystemState D L) where
   pub many_performed : (asked : Invocation) (file : Bor (List ℕ)) (place : ServedPlace) (many : ManyClients) (exit : Exit) (new : SystemState D L) (out : K) (err_before err_after : Known) → asked ≡ order.ServeClients file place many
-      → ServesManyAt X g a t p u q v w m n Reads old (subject.Named file) file.now place many exit new err_before err_after → IsPerformed X g k c a t p u q v w m n o r Reads listening state old asked exit new out out err_before err_after
+      → ServesManyAt X g a t p u q v w m n MayDraw Reads old (subject.Named file) file.now place many exit new err_before err_after → IsPerformed X g k c a t p u q v w m n o r MayDraw Reads listening state old asked exit new out out err_before err_after
   many_performed asked file place many exit new out err_before err_after is serves =
-      subst (λ (i : Invocation). IsPerformed X g k c a t p u q v w m n o r Reads listening state old i exit new out out err_before err_after) (sym is) (serves, refl)
+      subst (λ (i : Invocation). IsPerformed X g k c a t p u q v w m n o r MayDraw Reads listening state old i exit new out out err_before err_after) (sym is) (serves, refl)
 
   pub places_performed : (asked : Invocation) (file : Bor (List ℕ)) (places : Vec NamedPlace) (told : List NamedPlace) (many : ManyClients) (exit : Exit) (new : SystemState D L) (out : K) (err_before err_after : Known) → asked ≡ order.ServePlaces file places many → told ≡ places.items
-      → ServesPlaces X g a o r Reads old (subject.Named file) file.now told many exit new err_before err_after → IsPerformed X g k c a t p u q v w m n o r Reads listening state old asked exit new out out err_before err_after
+      → ServesPlaces X g a o r MayDraw Reads old (subject.Named file) file.now told many exit new err_before err_after → IsPerformed X g k c a t p u q v w m n o r MayDraw Reads listening state old asked exit new out out err_before err_after
   places_performed asked file places told many exit new out err_before err_after is same serves =
-      subst (λ (i : Invocation). IsPerformed X g k c a t p u q v w m n o r Reads listening state old i exit new out out err_before err_after) (sym is)
-      (subst (λ (ps : List NamedPlace). ServesPlaces X g a o r Reads old (subject.Named file) file.now ps many exit new err_before err_after) same serves, refl)
+      subst (λ (i : Invocation). IsPerformed X g k c a t p u q v w m n o r MayDraw Reads listening state old i exit new out out err_before err_after) (sym is)
+      (subst (λ (ps : List NamedPlace). ServesPlaces X g a o r MayDraw Reads old (subject.Named file) file.now ps many exit new err_before err_after) same serves, refl)
 
 -- clients were served at several places, each by the words of its place
-module _ {X : Type 0} {D L H F P V W Q : Type 0} {g : Ghosts D} {a : AttendGhosts L H} {s : TalkGhosts (PlacedTalk (DoorTalk F) (DoorTalk P) (PasswordTalk V) (PostgresLoginTalk W))} {t : TalkGhosts (EntryTalk (PlacedTalk (DoorTalk F) (DoorTalk P) (PasswordTalk V) (PostgresLoginTalk W)) s)}
-    {p : ClientsGhosts Q (EntryTalk (PlacedTalk (DoorTalk F) (DoorTalk P) (PasswordTalk V) (PostgresLoginTalk W)) s)} {Reads : ReadingRelation} {old : SystemState D L} {file : Subject} {path : List ℕ} {many : ManyClients} {exit : Exit} {new : SystemState D L} {err_before err_after : Known} where
-  pub served_at_each : (bound : Bor (List OnePlace)) (places made : List NamedPlace) (each : ListenPlace) → bound.now ≡ bound_places places → each ≡ Each bound → made ≡ places
-      → ServesMany X g a t p Reads old file path each (open_lines places) (StandsAtOne made) many exit new err_before err_after → ServesPlaces X g a t p Reads old file path places many exit new err_before err_after
-  served_at_each bound places made each are_bound is same serves = inr (record {
+module _ {X : Type 0} {D L H F P V W Q I : Type 0} {g : Ghosts D} {a : AttendGhosts L H} {s : TalkGhosts (PlacedTalk (DoorTalk F) (DoorTalk P) (PasswordTalk V) (PostgresLoginTalk W))} {t : TalkGhosts (EntryTalk (PlacedTalk (DoorTalk F) (DoorTalk P) (PasswordTalk V) (PostgresLoginTalk W)) s)}
+    {p : ClientsGhosts Q (EntryTalk (PlacedTalk (DoorTalk F) (DoorTalk P) (PasswordTalk V) (PostgresLoginTalk W)) s)} {MayDraw : I → List ℕ → Type 0} {Reads : ReadingRelation} {old : SystemState D L} {file : Subject} {path : List ℕ} {many : ManyClients} {exit : Exit} {new : SystemState D L} {err_before err_after : Known} where
+  pub served_at_each : (draw : I) (bound : Bor (List OnePlace)) (places made : List NamedPlace) (each : ListenPlace) → bound.now ≡ bound_places places → each ≡ Each bound → made ≡ places
+      → ServesMany X g a t p Reads old file path each (open_lines places) (StandsAtOne (MayDraw draw) made) many exit new err_before err_after → ServesPlaces X g a t p MayDraw Reads old file path places many exit new err_before err_after
+  served_at_each draw bound places made each are_bound is same serves = inr (record {
     bound = bound;
     are_bound = are_bound;
-    serves = subst (λ (e : ListenPlace). ServesMany X g a t p Reads old file path e (open_lines places) (StandsAtOne places) many exit new err_before err_after) is
-        (subst (λ (ps : List NamedPlace). ServesMany X g a t p Reads old file path each (open_lines places) (StandsAtOne ps) many exit new err_before err_after) same serves);
+    draw = draw;
+    serves = subst (λ (e : ListenPlace). ServesMany X g a t p Reads old file path e (open_lines places) (StandsAtOne (MayDraw draw) places) many exit new err_before err_after) is
+        (subst (λ (ps : List NamedPlace). ServesMany X g a t p Reads old file path each (open_lines places) (StandsAtOne (MayDraw draw) ps) many exit new err_before err_after) same serves);
   })
 
 -- what the door of a place says of passwords
@@ -75,10 +76,10 @@ asks_none : (door : PlaceDoor) → (door ≡ Anyone) ⊎ ((role : Bor (List ℕ)
 asks_none door is = ⊎_elim (λ anyone. ap asks_for_passwords anyone) (λ only. ap asks_for_passwords only.1) is
 
 -- clients were served at a place, by whom it lets in
-module _ {X : Type 0} {D L C T P V W : Type 0} {g : Ghosts D} {a : AttendGhosts L C} {t : TalkGhosts (DoorTalk T)} {p : ClientsGhosts P (DoorTalk T)} {v : TalkGhosts V} {w : ClientsGhosts W V} (place_of : V → PasswordPlace) {Reads : ReadingRelation} {old : SystemState D L} {file : Subject} {path : List ℕ} {many : ManyClients} {exit : Exit}
+module _ {X : Type 0} {D L C T P V W I : Type 0} {g : Ghosts D} {a : AttendGhosts L C} {t : TalkGhosts (DoorTalk T)} {p : ClientsGhosts P (DoorTalk T)} {v : TalkGhosts V} {w : ClientsGhosts W V} (place_of : V → PasswordPlace) (drawn_of : V → List ℕ) {MayDraw : I → List ℕ → Type 0} {Reads : ReadingRelation} {old : SystemState D L} {file : Subject} {path : List ℕ} {many : ManyClients} {exit : Exit}
     {new : SystemState D L} {err_before err_after : Known} where
   pub served_at_door : (place : ServedPlace) (named : NamedPlace) (door : PlaceDoor) → named ≡ named_by_itself place → door ≡ place.door → (place.door ≡ Anyone) ⊎ ((role : Bor (List ℕ)) × (place.door ≡ Only role))
-      → ServesMany X g a t p Reads old file path place.place (open_lines (named ∷ [])) (λ talk. IsDoorFor door talk.door) many exit new err_before err_after → ServesManyBy X g a t p v w place_of Reads old file path place many exit new err_before err_after
+      → ServesMany X g a t p Reads old file path place.place (open_lines (named ∷ [])) (λ talk. IsDoorFor door talk.door) many exit new err_before err_after → ServesManyBy X g a t p v w place_of drawn_of MayDraw Reads old file path place many exit new err_before err_after
   served_at_door place named door itself same is serves = record {
     at_door = λ asked.
         subst (λ (d : PlaceDoor). ServesMany X g a t p Reads old file path place.place (open_lines (by_itself place)) (λ talk. IsDoorFor d talk.door) many exit new err_before err_after) same
@@ -86,12 +87,14 @@ module _ {X : Type 0} {D L C T P V W : Type 0} {g : Ghosts D} {a : AttendGhosts 
     with_passwords = λ table mock asked. let bad : true ≡ false = sym (ap asks_for_passwords asked) ∙ asks_none place.door is in cc;
   }
 
-  pub served_with_passwords : (place : ServedPlace) (named : NamedPlace) (table mock : Bor (List ℕ)) (made_table made_mock : List ℕ) → named ≡ named_by_itself place → place.door ≡ Passwords table mock → made_table ≡ table.now → made_mock ≡ mock.now
-      → ServesMany X g a v w Reads old file path place.place (open_lines (named ∷ [])) (λ talk. place_of talk ≡ password_place made_table made_mock) many exit new err_before err_after → ServesManyBy X g a t p v w place_of Reads old file path place many exit new err_before err_after
-  served_with_passwords place named table mock made_table made_mock itself is same_table same_mock serves = record {
+  pub served_with_passwords : (draw : I) (place : ServedPlace) (named : NamedPlace) (table mock : Bor (List ℕ)) (made_table made_mock : List ℕ) → named ≡ named_by_itself place → place.door ≡ Passwords table mock → made_table ≡ table.now → made_mock ≡ mock.now
+      → ServesMany X g a v w Reads old file path place.place (open_lines (named ∷ [])) (λ talk. (place_of talk ≡ password_place made_table made_mock) × MayDraw draw (drawn_of talk)) many exit new err_before err_after → ServesManyBy X g a t p v w place_of drawn_of MayDraw Reads old file path place many exit new err_before err_after
+  served_with_passwords draw place named table mock made_table made_mock itself is same_table same_mock serves = record {
     at_door = λ open_to_all. let bad : true ≡ false = sym (ap asks_for_passwords is) ∙ open_to_all in cc;
-    with_passwords = λ other_table other_mock asked.
-        subst (λ (there : PasswordPlace). ServesMany X g a v w Reads old file path place.place (open_lines (by_itself place)) (λ talk. place_of talk ≡ there) many exit new err_before err_after)
-        (same_place made_table made_mock table.now mock.now same_table same_mock ∙ ap words_of (sym is ∙ asked))
-        (subst (λ (n : NamedPlace). ServesMany X g a v w Reads old file path place.place (open_lines (n ∷ [])) (λ talk. place_of talk ≡ password_place made_table made_mock) many exit new err_before err_after) itself serves);
+    with_passwords = λ other_table other_mock asked. (
+      draw,
+      subst (λ (there : PasswordPlace). ServesMany X g a v w Reads old file path place.place (open_lines (by_itself place)) (λ talk. (place_of talk ≡ there) × MayDraw draw (drawn_of talk)) many exit new err_before err_after)
+          (same_place made_table made_mock table.now mock.now same_table same_mock ∙ ap words_of (sym is ∙ asked))
+          (subst (λ (n : NamedPlace). ServesMany X g a v w Reads old file path place.place (open_lines (n ∷ [])) (λ talk. (place_of talk ≡ password_place made_table made_mock) × MayDraw draw (drawn_of talk)) many exit new err_before err_after) itself serves),
+    );
   }

@@ -1,5 +1,5 @@
 -- What the program does for the words of its command line, with what they say of refusals.
-use Rattle.std.specs.Prelude.{Option, Some, None}
+use Rattle.std.specs.Prelude.{ℕ, List, Option, Some, None}
 use Rattle.sector_device.specs.declared.device.Device.{Ghosts}
 use Rattle.abstract_database.specs.Runs.{ReadingRelation}
 use Rattle.systems.specs.Systems.{SystemState}
@@ -24,15 +24,15 @@ use Rattle.cli.specs.Refusals.{explained_run}
 -- `X` decides events, `g` is what is said of the devices of files, `k` of the sink that takes answers, `c` of the sinks of connections,
 -- `a` of listeners that are polled, `t` of conversations in frames, `p` of clients that come to such a listener and have them, `u` and `q` the same of
 -- PostgreSQL's protocol, `v` and `w` of frames that ask for passwords, `m` and `n` of PostgreSQL's protocol that does, `o` and `r` of conversations at several
--- places, `contents` of what takes messages,
+-- places, `contents` of what takes messages, `MayDraw` of what the system draws,
 -- `listening` of listeners and `state` of systems
-module _ (X : Type 0) {D L K C S E H T P U Q V W M N R : Type 0} (g : Ghosts D) (k : SinkGhosts K) (c : SinkGhosts C) (a : AttendGhosts L H) (t : TalkGhosts (DoorTalk T)) (p : ClientsGhosts P (DoorTalk T)) (u : TalkGhosts (DoorTalk U)) (q : ClientsGhosts Q (DoorTalk U)) (v : TalkGhosts (PasswordTalk V)) (w : ClientsGhosts W (PasswordTalk V)) (m : TalkGhosts (PostgresLoginTalk M)) (n : ClientsGhosts N (PostgresLoginTalk M)) {s : TalkGhosts (PlacedTalk (DoorTalk T) (DoorTalk U) (PasswordTalk V) (PostgresLoginTalk M))}
+module _ (X : Type 0) {D L K C S E H T P U Q V W M N R I : Type 0} (g : Ghosts D) (k : SinkGhosts K) (c : SinkGhosts C) (a : AttendGhosts L H) (t : TalkGhosts (DoorTalk T)) (p : ClientsGhosts P (DoorTalk T)) (u : TalkGhosts (DoorTalk U)) (q : ClientsGhosts Q (DoorTalk U)) (v : TalkGhosts (PasswordTalk V)) (w : ClientsGhosts W (PasswordTalk V)) (m : TalkGhosts (PostgresLoginTalk M)) (n : ClientsGhosts N (PostgresLoginTalk M)) {s : TalkGhosts (PlacedTalk (DoorTalk T) (DoorTalk U) (PasswordTalk V) (PostgresLoginTalk M))}
     (o : TalkGhosts (EntryTalk (PlacedTalk (DoorTalk T) (DoorTalk U) (PasswordTalk V) (PostgresLoginTalk M)) s)) (r : ClientsGhosts R (EntryTalk (PlacedTalk (DoorTalk T) (DoorTalk U) (PasswordTalk V) (PostgresLoginTalk M)) s))
-    (contents : E → Known) (Reads : ReadingRelation) (listening : L → Option Listening) (state : S → SystemState D L) (old : SystemState D L) where
+    (contents : E → Known) (MayDraw : I → List ℕ → Type 0) (Reads : ReadingRelation) (listening : L → Option Listening) (state : S → SystemState D L) (old : SystemState D L) where
   -- this run was made, and its refusals were told of; without one the order was performed
   abbrev pub CarriesOut : Option ExplainedRun → Invocation → K → E → SystemState D L → Performed K E → Type 0
   CarriesOut (Some run) order out err new done = ExplainsRun X g k contents Reads old run out err new done
-  CarriesOut None order out err new done = IsPerformed X g k c a t p u q v w m n o r Reads listening state old order done.exit new out done.out (contents err) (contents done.err)
+  CarriesOut None order out err new done = IsPerformed X g k c a t p u q v w m n o r MayDraw Reads listening state old order done.exit new out done.out (contents err) (contents done.err)
 
   -- an order was carried out: with `--explain` or `--stop` refusals were told of, and with `--stop` the run ended at the first
   abbrev pub IsCarriedOut : Invocation → K → E → SystemState D L → Performed K E → Type 0

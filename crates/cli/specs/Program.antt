@@ -278,16 +278,18 @@ asks_for_passwords (Only role) = false
 asks_for_passwords (Passwords table mock) = true
 
 -- the same by one protocol, by whom the place lets in: each conversation stands at its door, or each asks for a password whose verifier is in the table
--- that is named. `t` and `p` are said of the first, `v` and `w` of the others, and `place_of` is the place at which one of those asks
-pub record ServesManyBy (X : Type 0) {D L C T P V W : Type 0} (g : Ghosts D) (a : AttendGhosts L C) (t : TalkGhosts (DoorTalk T)) (p : ClientsGhosts P (DoorTalk T)) (v : TalkGhosts V) (w : ClientsGhosts W V) (place_of : V → PasswordPlace) (Reads : ReadingRelation) (old : SystemState D L) (file : Subject) (path : List ℕ) (place : ServedPlace) (many : ManyClients) (exit : Exit) (new : SystemState D L) (err_before err_after : Known) : Type 0 where
+-- that is named, by an exchange that begins with bytes that may be drawn. `t` and `p` are said of the first, `v` and `w` of the others, `place_of` is the
+-- place at which one of those asks, `drawn_of` what was drawn for it, and `MayDraw` says what may be
+pub record ServesManyBy (X : Type 0) {D L C T P V W I : Type 0} (g : Ghosts D) (a : AttendGhosts L C) (t : TalkGhosts (DoorTalk T)) (p : ClientsGhosts P (DoorTalk T)) (v : TalkGhosts V) (w : ClientsGhosts W V) (place_of : V → PasswordPlace) (drawn_of : V → List ℕ) (MayDraw : I → List ℕ → Type 0) (Reads : ReadingRelation) (old : SystemState D L) (file : Subject) (path : List ℕ) (place : ServedPlace) (many : ManyClients) (exit : Exit) (new : SystemState D L) (err_before err_after : Known) : Type 0 where
   pub at_door : asks_for_passwords place.door ≡ false → ServesMany X g a t p Reads old file path place.place (open_lines (by_itself place)) (λ talk. IsDoorFor place.door talk.door) many exit new err_before err_after
-  pub with_passwords : (table mock : Bor (List ℕ)) → place.door ≡ Passwords table mock → ServesMany X g a v w Reads old file path place.place (open_lines (by_itself place)) (λ talk. place_of talk ≡ password_place table.now mock.now) many exit new err_before err_after
+  pub with_passwords : (table mock : Bor (List ℕ)) → place.door ≡ Passwords table mock → (draw : I) × ServesMany X g a v w Reads old file path place.place (open_lines (by_itself place))
+      (λ talk. (place_of talk ≡ password_place table.now mock.now) × MayDraw draw (drawn_of talk)) many exit new err_before err_after
 
 -- the same by the protocol of the place: `t` is what is said of conversations in frames, `p` of the clients that have them, and `v` and `w` the same of
 -- those that ask for passwords; `u`, `q`, `m` and `n` are the same of PostgreSQL's protocol
-pub record ServesManyAt (X : Type 0) {D L C T P U Q V W M N : Type 0} (g : Ghosts D) (a : AttendGhosts L C) (t : TalkGhosts (DoorTalk T)) (p : ClientsGhosts P (DoorTalk T)) (u : TalkGhosts (DoorTalk U)) (q : ClientsGhosts Q (DoorTalk U)) (v : TalkGhosts (PasswordTalk V)) (w : ClientsGhosts W (PasswordTalk V)) (m : TalkGhosts (PostgresLoginTalk M)) (n : ClientsGhosts N (PostgresLoginTalk M)) (Reads : ReadingRelation) (old : SystemState D L) (file : Subject) (path : List ℕ) (place : ServedPlace) (many : ManyClients) (exit : Exit) (new : SystemState D L) (err_before err_after : Known) : Type 0 where
-  pub in_frames : place.protocol ≡ Frames → ServesManyBy X g a t p v w (λ talk. talk.login.place) Reads old file path place many exit new err_before err_after
-  pub by_postgres : place.protocol ≡ Postgres → ServesManyBy X g a u q m n (λ talk. talk.login.place) Reads old file path place many exit new err_before err_after
+pub record ServesManyAt (X : Type 0) {D L C T P U Q V W M N I : Type 0} (g : Ghosts D) (a : AttendGhosts L C) (t : TalkGhosts (DoorTalk T)) (p : ClientsGhosts P (DoorTalk T)) (u : TalkGhosts (DoorTalk U)) (q : ClientsGhosts Q (DoorTalk U)) (v : TalkGhosts (PasswordTalk V)) (w : ClientsGhosts W (PasswordTalk V)) (m : TalkGhosts (PostgresLoginTalk M)) (n : ClientsGhosts N (PostgresLoginTalk M)) (MayDraw : I → List ℕ → Type 0) (Reads : ReadingRelation) (old : SystemState D L) (file : Subject) (path : List ℕ) (place : ServedPlace) (many : ManyClients) (exit : Exit) (new : SystemState D L) (err_before err_after : Known) : Type 0 where
+  pub in_frames : place.protocol ≡ Frames → ServesManyBy X g a t p v w (λ talk. talk.login.place) (λ talk. talk.login.drawn) MayDraw Reads old file path place many exit new err_before err_after
+  pub by_postgres : place.protocol ≡ Postgres → ServesManyBy X g a u q m n (λ talk. talk.login.place) (λ talk. talk.login.drawn) MayDraw Reads old file path place many exit new err_before err_after
 
 -- one of several places, as it is to be bound; several are not one of them
 abbrev pub bound_at : SocketAccess → ListenPlace → OnePlace
@@ -304,34 +306,35 @@ abbrev pub bound_places : List NamedPlace → List OnePlace
 bound_places places = map (λ named. bound_place named.served) places
 
 -- Many clients at once were served at all of these places over the database in a file, or why they were not was told. The conversation of each client is
--- one at one of the places, by the words of that place. `t` and `p` are what is said of conversations there and of the clients that have them
-pub record ServesAllPlaces (X : Type 0) {D L C F P V W Q : Type 0} (g : Ghosts D) (a : AttendGhosts L C) {s : TalkGhosts (PlacedTalk (DoorTalk F) (DoorTalk P) (PasswordTalk V) (PostgresLoginTalk W))}
+-- one at one of the places, by the words of that place; where it asks for a password it begins with bytes that may be drawn. `t` and `p` are what is said of conversations there and of the clients that have them
+pub record ServesAllPlaces (X : Type 0) {D L C F P V W Q I : Type 0} (g : Ghosts D) (a : AttendGhosts L C) {s : TalkGhosts (PlacedTalk (DoorTalk F) (DoorTalk P) (PasswordTalk V) (PostgresLoginTalk W))}
     (t : TalkGhosts (EntryTalk (PlacedTalk (DoorTalk F) (DoorTalk P) (PasswordTalk V) (PostgresLoginTalk W)) s)) (p : ClientsGhosts Q (EntryTalk (PlacedTalk (DoorTalk F) (DoorTalk P) (PasswordTalk V) (PostgresLoginTalk W)) s))
-    (Reads : ReadingRelation) (old : SystemState D L) (file : Subject) (path : List ℕ) (places : List NamedPlace) (many : ManyClients) (exit : Exit) (new : SystemState D L) (err_before err_after : Known) : Type 0 where
+    (MayDraw : I → List ℕ → Type 0) (Reads : ReadingRelation) (old : SystemState D L) (file : Subject) (path : List ℕ) (places : List NamedPlace) (many : ManyClients) (exit : Exit) (new : SystemState D L) (err_before err_after : Known) : Type 0 where
   pub bound : Bor (List OnePlace)
   pub are_bound : bound.now ≡ bound_places places
-  pub serves : ServesMany X g a t p Reads old file path (Each bound) (open_lines places) (StandsAtOne places) many exit new err_before err_after
+  pub draw : I
+  pub serves : ServesMany X g a t p Reads old file path (Each bound) (open_lines places) (StandsAtOne (MayDraw draw) places) many exit new err_before err_after
 
 -- memory was refused before anything was done
 pub record ServesNoPlace {D L : Type 0} (old : SystemState D L) (file : Subject) (exit : Exit) (new : SystemState D L) (err_before err_after : Known) : Type 0 where
   pub ends : Exits file (ending.Fault fault.Memory) exit err_before err_after
   pub same : StaysSame old new
 
-abbrev pub ServesPlaces : (X : Type 0) {D L C F P V W Q : Type 0} (g : Ghosts D) (a : AttendGhosts L C) {s : TalkGhosts (PlacedTalk (DoorTalk F) (DoorTalk P) (PasswordTalk V) (PostgresLoginTalk W))}
+abbrev pub ServesPlaces : (X : Type 0) {D L C F P V W Q I : Type 0} (g : Ghosts D) (a : AttendGhosts L C) {s : TalkGhosts (PlacedTalk (DoorTalk F) (DoorTalk P) (PasswordTalk V) (PostgresLoginTalk W))}
     (t : TalkGhosts (EntryTalk (PlacedTalk (DoorTalk F) (DoorTalk P) (PasswordTalk V) (PostgresLoginTalk W)) s)) (p : ClientsGhosts Q (EntryTalk (PlacedTalk (DoorTalk F) (DoorTalk P) (PasswordTalk V) (PostgresLoginTalk W)) s))
-    → ReadingRelation → SystemState D L → Subject → List ℕ → List NamedPlace → ManyClients → Exit → SystemState D L → Known → Known → Type 0
-ServesPlaces X g a t p Reads old file path places many exit new err_before err_after =
-    ServesNoPlace old file exit new err_before err_after ⊎ ServesAllPlaces X g a t p Reads old file path places many exit new err_before err_after
+    → (I → List ℕ → Type 0) → ReadingRelation → SystemState D L → Subject → List ℕ → List NamedPlace → ManyClients → Exit → SystemState D L → Known → Known → Type 0
+ServesPlaces X g a t p MayDraw Reads old file path places many exit new err_before err_after =
+    ServesNoPlace old file exit new err_before err_after ⊎ ServesAllPlaces X g a t p MayDraw Reads old file path places many exit new err_before err_after
 
 -- ---- what a command does
 
 -- `X` decides events, `g` is what is said of the devices of files, `k` of the sink that takes answers, `c` of the sinks of connections,
 -- `listening` of listeners, `a` of those that are polled, `t` of conversations in frames, `p` of clients that come to such a listener and have them, `u` and `q` the same of
--- PostgreSQL's protocol, `v` and `w` of frames that ask for passwords, `m` and `n` of PostgreSQL's protocol that does, `o` and `r` of conversations at several places, and `state` of systems. The script that was named was run over the database that was named, or why not was told; a
+-- PostgreSQL's protocol, `v` and `w` of frames that ask for passwords, `m` and `n` of PostgreSQL's protocol that does, `o` and `r` of conversations at several places, `MayDraw` of what the system draws, and `state` of systems. The script that was named was run over the database that was named, or why not was told; a
 -- database in a file was made, copied, checked, described or served, a statement over it was explained, or its journal was turned on or off; a verifier was made; or a text was printed
-module _ (X : Type 0) {D L K C S H T P U Q V W M N R : Type 0} (g : Ghosts D) (k : SinkGhosts K) (c : SinkGhosts C) (a : AttendGhosts L H) (t : TalkGhosts (DoorTalk T)) (p : ClientsGhosts P (DoorTalk T)) (u : TalkGhosts (DoorTalk U)) (q : ClientsGhosts Q (DoorTalk U)) (v : TalkGhosts (PasswordTalk V)) (w : ClientsGhosts W (PasswordTalk V)) (m : TalkGhosts (PostgresLoginTalk M)) (n : ClientsGhosts N (PostgresLoginTalk M)) {s : TalkGhosts (PlacedTalk (DoorTalk T) (DoorTalk U) (PasswordTalk V) (PostgresLoginTalk M))}
+module _ (X : Type 0) {D L K C S H T P U Q V W M N R I : Type 0} (g : Ghosts D) (k : SinkGhosts K) (c : SinkGhosts C) (a : AttendGhosts L H) (t : TalkGhosts (DoorTalk T)) (p : ClientsGhosts P (DoorTalk T)) (u : TalkGhosts (DoorTalk U)) (q : ClientsGhosts Q (DoorTalk U)) (v : TalkGhosts (PasswordTalk V)) (w : ClientsGhosts W (PasswordTalk V)) (m : TalkGhosts (PostgresLoginTalk M)) (n : ClientsGhosts N (PostgresLoginTalk M)) {s : TalkGhosts (PlacedTalk (DoorTalk T) (DoorTalk U) (PasswordTalk V) (PostgresLoginTalk M))}
     (o : TalkGhosts (EntryTalk (PlacedTalk (DoorTalk T) (DoorTalk U) (PasswordTalk V) (PostgresLoginTalk M)) s)) (r : ClientsGhosts R (EntryTalk (PlacedTalk (DoorTalk T) (DoorTalk U) (PasswordTalk V) (PostgresLoginTalk M)) s))
-    (Reads : ReadingRelation) (listening : L → Option Listening) (state : S → SystemState D L) (old : SystemState D L) where
+    (MayDraw : I → List ℕ → Type 0) (Reads : ReadingRelation) (listening : L → Option Listening) (state : S → SystemState D L) (old : SystemState D L) where
   abbrev pub IsPerformed : Invocation → Exit → SystemState D L → K → K → Known → Known → Type 0
   IsPerformed (order.Format file pages admin journal) exit new out_before out_after err_before err_after =
       DoesFormat g k old (subject.Named file) file.now pages admin.now journal exit new out_before out_after err_before err_after
@@ -354,9 +357,9 @@ module _ (X : Type 0) {D L K C S H T P U Q V W M N R : Type 0} (g : Ghosts D) (k
   IsPerformed (order.ServeSocket file socket connections idle) exit new out_before out_after err_before err_after =
       Serves X g c Reads listening old (subject.Named file) file.now (Socket socket) connections exit new err_before err_after × (out_after ≡ out_before)
   IsPerformed (order.ServeClients file place many) exit new out_before out_after err_before err_after =
-      ServesManyAt X g a t p u q v w m n Reads old (subject.Named file) file.now place many exit new err_before err_after × (out_after ≡ out_before)
+      ServesManyAt X g a t p u q v w m n MayDraw Reads old (subject.Named file) file.now place many exit new err_before err_after × (out_after ≡ out_before)
   IsPerformed (order.ServePlaces file places many) exit new out_before out_after err_before err_after =
-      ServesPlaces X g a o r Reads old (subject.Named file) file.now places.items many exit new err_before err_after × (out_after ≡ out_before)
+      ServesPlaces X g a o r MayDraw Reads old (subject.Named file) file.now places.items many exit new err_before err_after × (out_after ≡ out_before)
   IsPerformed (order.Check file) exit new out_before out_after err_before err_after =
       Checks X g state old (subject.Named file) file.now exit new (k.held out_before) (k.held out_after) err_before err_after
   IsPerformed (order.Describe file asked json) exit new out_before out_after err_before err_after =

@@ -23,18 +23,19 @@ AsksFor Anyone place = ⊥
 AsksFor (Only role) place = ⊥
 AsksFor (Passwords table mock) place = place ≡ password_place table.now mock.now
 
-module _ {F P V W : Type 0} where
+-- `Drawn` says which bytes an exchange of a login may begin with
+module _ {F P V W : Type 0} (Drawn : List ℕ → Type 0) where
   -- a conversation by the protocol of the place, at its door: for the one role, for anyone, or for who shows a password of that table
   abbrev pub StandsAt : ServedPlace → PlacedTalk (DoorTalk F) (DoorTalk P) (PasswordTalk V) (PostgresLoginTalk W) → Type 0
   StandsAt served (kind.Frames talk) = (served.protocol ≡ Frames) × IsDoorFor served.door talk.door
   StandsAt served (kind.Postgres talk) = (served.protocol ≡ Postgres) × IsDoorFor served.door talk.door
-  StandsAt served (kind.FramesWithPassword talk) = (served.protocol ≡ Frames) × AsksFor served.door talk.login.place
-  StandsAt served (kind.PostgresWithPassword talk) = (served.protocol ≡ Postgres) × AsksFor served.door talk.login.place
+  StandsAt served (kind.FramesWithPassword talk) = (served.protocol ≡ Frames) × AsksFor served.door talk.login.place × Drawn talk.login.drawn
+  StandsAt served (kind.PostgresWithPassword talk) = (served.protocol ≡ Postgres) × AsksFor served.door talk.login.place × Drawn talk.login.drawn
 
-module _ {F P V W : Type 0} {s : TalkGhosts (PlacedTalk (DoorTalk F) (DoorTalk P) (PasswordTalk V) (PostgresLoginTalk W))} where
+module _ {F P V W : Type 0} {s : TalkGhosts (PlacedTalk (DoorTalk F) (DoorTalk P) (PasswordTalk V) (PostgresLoginTalk W))} (Drawn : List ℕ → Type 0) where
   -- a conversation by all the words of a place: it admits no superuser where the place does not
   abbrev pub StandsAs : NamedPlace → EntryTalk (PlacedTalk (DoorTalk F) (DoorTalk P) (PasswordTalk V) (PostgresLoginTalk W)) s → Type 0
-  StandsAs named talk = (talk.no_superuser ≡ named.no_superuser) × StandsAt named.served talk.talk
+  StandsAs named talk = (talk.no_superuser ≡ named.no_superuser) × StandsAt Drawn named.served talk.talk
 
   -- at the place of this number
   abbrev pub StandsAtPlace : List NamedPlace → ℕ → EntryTalk (PlacedTalk (DoorTalk F) (DoorTalk P) (PasswordTalk V) (PostgresLoginTalk W)) s → Type 0

@@ -51,7 +51,7 @@ pub fn carry_out<'a, Y: System, X: EventHandler + Drop, K: TakesText + Drop, E: 
         ⟦<PolledClients<PostgresLoginTalk<PostgresTalk>, Y::Channel, Y::Listener, PostgresLogins<'a, PostgresTalks, Y::Draw>> as ServedClients<PostgresLoginTalk<PostgresTalk>>>⟧
         ⟦<EntryTalk<SomeTalk> as Talk>⟧
         ⟦<PolledClients<EntryTalk<SomeTalk>, Y::Channel, Y::Listener, SeveralTalks<'a, Y::Draw>> as ServedClients<EntryTalk<SomeTalk>>>⟧
-        E.contents X.Reads
+        E.contents Y.Draw.draws X.Reads
         Y.Listener.listening Y.state (Y.state system.old) order.now out err (Y.state system.new)
         result }
 {

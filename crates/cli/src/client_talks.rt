@@ -321,7 +321,9 @@ impl<D: Draw> PasswordDoor<'_, D> {
     }
 
     // Bytes for one conversation.
-    fn drawn(&self) -> Result<[u8; 32], AllocError> {
+    fn drawn(&self) -> Result<[u8; 32], AllocError>
+        ensures { IfOk result (λ drawn. D.draws self.now.draw drawn) }
+    {
         drawn_by(&self.draw)
     }
 }
@@ -343,7 +345,9 @@ pub(crate) fn asking_place(
 }
 
 /// Bytes for one conversation. Where none are drawn it is as where an allocation fails.
-pub(crate) fn drawn_by<D: Draw>(draw: &D) -> Result<[u8; 32], AllocError> {
+pub(crate) fn drawn_by<D: Draw>(draw: &D) -> Result<[u8; 32], AllocError>
+    ensures { IfOk result (λ drawn. D.draws draw.now drawn) }
+{
     match draw.draw() {
         Some(drawn) => Ok(drawn),
         None => Err(AllocError),
@@ -369,9 +373,11 @@ impl<'a, F, D> PasswordTalks<'a, F, D> {
 impl<'a, T: Talk, F: TalkMaker<T>, D: Draw> TalkMaker<PasswordTalk<T>> for PasswordTalks<'a, F, D> {
     ghost use Rattle.std.specs.Prelude.{true};
 
-    ghost makes_at = { λ maker place talk. talk.login.place ≡ password_place maker.door.table.now maker.door.mock.now };
+    ghost makes_at = { λ maker place talk. (talk.login.place ≡ password_place maker.door.table.now maker.door.mock.now)
+        × D.draws maker.door.draw talk.login.drawn };
 
-    ghost makes = { λ maker talk. talk.login.place ≡ password_place maker.door.table.now maker.door.mock.now };
+    ghost makes = { λ maker talk. (talk.login.place ≡ password_place maker.door.table.now maker.door.mock.now)
+        × D.draws maker.door.draw talk.login.drawn };
 
     ghost has_strangers = { λ maker place. true };
 
@@ -427,9 +433,11 @@ impl<'a, T: Talk, F: TalkMaker<T>, D: Draw> TalkMaker<PostgresLoginTalk<T>>
     for PostgresLogins<'a, F, D> {
     ghost use Rattle.std.specs.Prelude.{true};
 
-    ghost makes_at = { λ maker place talk. talk.login.place ≡ password_place maker.door.table.now maker.door.mock.now };
+    ghost makes_at = { λ maker place talk. (talk.login.place ≡ password_place maker.door.table.now maker.door.mock.now)
+        × D.draws maker.door.draw talk.login.drawn };
 
-    ghost makes = { λ maker talk. talk.login.place ≡ password_place maker.door.table.now maker.door.mock.now };
+    ghost makes = { λ maker talk. (talk.login.place ≡ password_place maker.door.table.now maker.door.mock.now)
+        × D.draws maker.door.draw talk.login.drawn };
 
     ghost has_strangers = { λ maker place. true };
 

@@ -22,7 +22,7 @@ use sector_device::{Device, HistoryDevice, WriteProtected};
 use server::decide::EventHandler;
 use std::alloc::Global;
 use std::io::Write;
-use systems::{MemListener, MemSystem, ZeroDraw};
+use systems::{Draw, MemListener, MemSystem, ZeroDraw};
 use talks::clients::ServedClients;
 use talks::talk::Talk;
 use wire::frame_sink::FrameSink;
@@ -52,7 +52,7 @@ pub fn carry_out_in_memory<'a, X: EventHandler + Drop, K: TakesText + Drop, E: W
         ⟦<PolledClients<PostgresLoginTalk<PostgresTalk>, MemChannel, MemListener, PostgresLogins<'a, PostgresTalks, ZeroDraw>> as ServedClients<PostgresLoginTalk<PostgresTalk>>>⟧
         ⟦<EntryTalk<SomeTalk> as Talk>⟧
         ⟦<PolledClients<EntryTalk<SomeTalk>, MemChannel, MemListener, SeveralTalks<'a, ZeroDraw>> as ServedClients<EntryTalk<SomeTalk>>>⟧
-        E.contents X.Reads ⟦<MemListener as Listen>⟧.listening
+        E.contents ⟦<ZeroDraw as Draw>⟧.draws X.Reads ⟦<MemListener as Listen>⟧.listening
         system_state (system_state system.old) order.now out err (system_state system.new) result }
 {
     carry_out(system, alloc, handler, order, out, err)

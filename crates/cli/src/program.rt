@@ -113,7 +113,7 @@ pub fn perform<'a, Y: System, X: EventHandler + Drop, K: TakesText, E: Write>(
         ⟦<PolledClients<PostgresLoginTalk<PostgresTalk>, Y::Channel, Y::Listener, PostgresLogins<'a, PostgresTalks, Y::Draw>> as ServedClients<PostgresLoginTalk<PostgresTalk>>>⟧
         ⟦<EntryTalk<SomeTalk> as Talk>⟧
         ⟦<PolledClients<EntryTalk<SomeTalk>, Y::Channel, Y::Listener, SeveralTalks<'a, Y::Draw>> as ServedClients<EntryTalk<SomeTalk>>>⟧
-        X.Reads Y.Listener.listening Y.state (Y.state system.old) order.now result (Y.state system.new) out.old out.new
+        Y.Draw.draws X.Reads Y.Listener.listening Y.state (Y.state system.old) order.now result (Y.state system.new) out.old out.new
         (E.contents err.old) (E.contents err.new) }
 {
     match order {
@@ -308,7 +308,7 @@ fn serve_at<'a, Y: System, X: EventHandler + Drop, E: Write>(
         ⟦<PolledClients<PasswordTalk<FramedTalk>, Y::Channel, Y::Listener, PasswordTalks<'a, FrameTalks, Y::Draw>> as ServedClients<PasswordTalk<FramedTalk>>>⟧
         ⟦<PostgresLoginTalk<PostgresTalk> as Talk>⟧
         ⟦<PolledClients<PostgresLoginTalk<PostgresTalk>, Y::Channel, Y::Listener, PostgresLogins<'a, PostgresTalks, Y::Draw>> as ServedClients<PostgresLoginTalk<PostgresTalk>>>⟧
-        X.Reads (Y.state system.old) (Subject.Named file.entry) file.now place.entry many
+        Y.Draw.draws X.Reads (Y.state system.old) (Subject.Named file.entry) file.now place.entry many
         result (Y.state system.new) (E.contents err.old) (E.contents err.new) }
 {
     match place.protocol {
@@ -331,8 +331,8 @@ fn serve_in_frames<'a, Y: System, X: EventHandler + Drop, E: Write>(
         ⟦<PolledClients<DoorTalk<FramedTalk>, Y::Channel, Y::Listener, DoorTalks<'a, FrameTalks>> as ServedClients<DoorTalk<FramedTalk>>>⟧
         ⟦<PasswordTalk<FramedTalk> as Talk>⟧
         ⟦<PolledClients<PasswordTalk<FramedTalk>, Y::Channel, Y::Listener, PasswordTalks<'a, FrameTalks, Y::Draw>> as ServedClients<PasswordTalk<FramedTalk>>>⟧
-        (λ talk. talk.login.place)
-        X.Reads (Y.state system.old) (Subject.Named file.entry) file.now place.entry many
+        (λ talk. talk.login.place) (λ talk. talk.login.drawn)
+        Y.Draw.draws X.Reads (Y.state system.old) (Subject.Named file.entry) file.now place.entry many
         result (Y.state system.new) (E.contents err.old) (E.contents err.new) }
 {
     let speaker = FrameTalks::new(alloc, place.tells_open);
@@ -368,8 +368,8 @@ fn serve_by_postgres<'a, Y: System, X: EventHandler + Drop, E: Write>(
         ⟦<PolledClients<DoorTalk<PostgresTalk>, Y::Channel, Y::Listener, DoorTalks<'a, PostgresTalks>> as ServedClients<DoorTalk<PostgresTalk>>>⟧
         ⟦<PostgresLoginTalk<PostgresTalk> as Talk>⟧
         ⟦<PolledClients<PostgresLoginTalk<PostgresTalk>, Y::Channel, Y::Listener, PostgresLogins<'a, PostgresTalks, Y::Draw>> as ServedClients<PostgresLoginTalk<PostgresTalk>>>⟧
-        (λ talk. talk.login.place)
-        X.Reads (Y.state system.old) (Subject.Named file.entry) file.now place.entry many
+        (λ talk. talk.login.place) (λ talk. talk.login.drawn)
+        Y.Draw.draws X.Reads (Y.state system.old) (Subject.Named file.entry) file.now place.entry many
         result (Y.state system.new) (E.contents err.old) (E.contents err.new) }
 {
     let speaker = PostgresTalks::new(alloc);
@@ -435,7 +435,7 @@ fn serve_places<'a, Y: System, X: EventHandler + Drop, E: Write>(
 ) -> Exit
     ensures { ServesPlaces X Y.Device.Device Y.Listener.Attend ⟦<EntryTalk<SomeTalk> as Talk>⟧
         ⟦<PolledClients<EntryTalk<SomeTalk>, Y::Channel, Y::Listener, SeveralTalks<'a, Y::Draw>> as ServedClients<EntryTalk<SomeTalk>>>⟧
-        X.Reads (Y.state system.old) (Subject.Named file.entry) file.now places.now many
+        Y.Draw.draws X.Reads (Y.state system.old) (Subject.Named file.entry) file.now places.now many
         result (Y.state system.new) (E.contents err.old) (E.contents err.new) }
 {
     let about = Subject::Named(file);

@@ -66,7 +66,7 @@ impl<D: Draw> SeveralTalks<'_, D> {
     // A conversation at a place. An error: an allocation failed, or no bytes are drawn.
     fn talk_at(&self, served: ServedPlace<'_>) -> Result<SomeTalk, AllocError>
         ensures starts { IfOk result (λ talk. ⟦<SomeTalk as Talk>⟧.starts talk) }
-        ensures stands { IfOk result (StandsAt served.entry) }
+        ensures stands { IfOk result (StandsAt (D.draws self.now.draw) served.entry) }
     {
         match served.door {
             PlaceDoor::Anyone | PlaceDoor::Only(_) => {
@@ -105,9 +105,9 @@ impl<D: Draw> SeveralTalks<'_, D> {
 impl<D: Draw> TalkMaker<EntryTalk<SomeTalk>> for SeveralTalks<'_, D> {
     ghost use Rattle.cli.specs.SeveralTalks.{StandsAtOne, StandsAtPlace, asks_at};
 
-    ghost makes_at = { λ maker place talk. StandsAtPlace maker.places.items place talk };
+    ghost makes_at = { λ maker place talk. StandsAtPlace (D.draws maker.draw) maker.places.items place talk };
 
-    ghost makes = { λ maker talk. StandsAtOne maker.places.items talk };
+    ghost makes = { λ maker talk. StandsAtOne (D.draws maker.draw) maker.places.items talk };
 
     ghost has_strangers = { λ maker place. asks_at maker.places.items place };
 

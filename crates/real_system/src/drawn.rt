@@ -17,6 +17,8 @@ impl<'r, R: RandomSource> SystemDraw<'r, R> {
 }
 
 impl<R: RandomSource> Draw for SystemDraw<'_, R> {
+    ghost draws = { λ draw bytes. Unit {0} };
+
     fn draw(&self) -> Option<[u8; 32]> {
         let mut drawn = [0; 32];
         match self.rt.fill_bytes(&mut drawn) {
